@@ -1,0 +1,4 @@
+// Exact figures, and the pairs of whole numbers that hold them.
+pub mod laws;
+pub mod pair;
+pub mod rounding;

@@ -57,11 +57,13 @@ not-negative c h = omega (arith, h .le)
 -- a ≤ b and 0 ≤ c give a·c ≤ b·c
 pub mul-left : {a b : Fraction} (c : Fraction) → Le (nat 0) c → Le a b → Le (mul a c) (mul b c)
 unfolding mul
-mul-left {a} {b} c z h = record { le =
-    let cs : c .minus ≤ c .plus = not-negative c z in
-    let is : c .plus ≡ (c .plus - c .minus) + c .minus = omega arith in
-    subst (λ (p : ℕ). (a .plus * p + a .minus * c .minus) * (b .bottom * c .bottom) + (b .plus * c .minus + b .minus * p) * (a .bottom * c .bottom) ≤ (b .plus * p + b .minus * c .minus) * (a .bottom * c .bottom) + (a .plus * c .minus + a .minus * p) * (b .bottom * c .bottom)) (sym is)
-      (mul-n (a .plus) (a .minus) (a .bottom) (b .plus) (b .minus) (b .bottom) (c .plus - c .minus) (c .minus) (c .bottom) (h .le)) }
+mul-left {a} {b} c z h = record {
+  le =
+      let cs : c .minus ≤ c .plus = not-negative c z in
+      let is : c .plus ≡ (c .plus - c .minus) + c .minus = omega arith in
+      subst (λ (p : ℕ). (a .plus * p + a .minus * c .minus) * (b .bottom * c .bottom) + (b .plus * c .minus + b .minus * p) * (a .bottom * c .bottom) ≤ (b .plus * p + b .minus * c .minus) * (a .bottom * c .bottom) + (a .plus * c .minus + a .minus * p) * (b .bottom * c .bottom)) (sym is)
+      (mul-n (a .plus) (a .minus) (a .bottom) (b .plus) (b .minus) (b .bottom) (c .plus - c .minus) (c .minus) (c .bottom) (h .le));
+}
 
 -- 0 ≤ a ≤ b and 0 ≤ c ≤ d give a·c ≤ b·d
 pub mul-mono : {a b c d : Fraction} → Le (nat 0) b → Le (nat 0) c → Le a b → Le c d → Le (mul a c) (mul b d)

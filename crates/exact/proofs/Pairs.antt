@@ -8,7 +8,7 @@ use lib.Signed.{_≤ℤ_}
 use Rattle.std.proofs.shelf.Signed.{ints}
 use Rattle.exact.specs.Fractions.{Fraction, Le, Lt, Same, whole, nat, add, sub, mul, div}
 use Rattle.exact.specs.Figures.{Figure, number, AtMost, AtLeast, Exceeds, Keeps, Within}
-use Rattle.exact.specs.Pairs.{Holds, steps, floor, ceiling}
+use Rattle.exact.specs.Pairs.{Holds, parts, steps, floor, ceiling}
 use Rattle.exact.proofs.Order.{le-refl, le-trans, lt-le, lt-le-trans, not-lt, same-le, same-sym, nat-le, nat-positive}
 use Rattle.exact.proofs.Worth.{Worth, worth-nat, worth-mul, worth-div, worth-le}
 use Rattle.exact.proofs.Arithmetic.{add-mono, sub-least, mul-mono}
@@ -39,6 +39,10 @@ holds-ends {unit} {low} {high} {l} {h} {f} e d k = subst (λ (z : ℤ). Holds un
 pub holds-quotient : (n d : ℕ) → 0 < d → Holds whole (pos (n / d)) (pos (ceiling n d)) (number (div (nat n) (nat d)))
 holds-quotient n d o = record { least = nat-least n d (n / d) o (floor-under n d o .0); most = nat-most n d (ceiling n d) o (ceil-over n d o .0) }
 
+-- a pair of whole numbers that holds k times a number holds the number, in its k-th parts
+pub holds-parts : (k : ℕ) → 0 < k → (low high : ℤ) (x : Fraction) → Holds whole low high (number (mul x (nat k))) → Holds (parts k) low high (number x)
+holds-parts k o low high x h = record { least = quotient-most (nat-positive o) (h .least); most = quotient-least (nat-positive o) (h .most) }
+
 -- steps that are not negative
 steps-worth : (n : ℕ) → Worth (steps (pos n)) (n * 1) (0 * 1) (1 * 100000000)
 steps-worth n = worth-div (lit< tt) (worth-nat n) (worth-nat 100000000)
@@ -54,12 +58,14 @@ holds-ratio-n a A b B x y o O h k =
     let y-positive : Le (nat 0) y = lt-le y-above in
     record {
       least = quotient-least y-above (le-trans (mul-mono (steps-positive (floor (100000000 * a) B)) y-positive (le-refl (steps (pos (floor (100000000 * a) B)))) (k .most))
-        (le-trans (under (floor (100000000 * a) B) (floor-under (100000000 * a) B O .0)) (h .least)));
+          (le-trans (under (floor (100000000 * a) B) (floor-under (100000000 * a) B O .0)) (h .least)));
       most = quotient-most y-above (le-trans (h .most) (le-trans (over (ceiling (100000000 * A) b) (ceil-over (100000000 * A) b o .0))
-        (mul-mono (steps-positive (ceiling (100000000 * A) b)) (nat-le (omega arith)) (le-refl (steps (pos (ceiling (100000000 * A) b)))) (k .least)))) }
+          (mul-mono (steps-positive (ceiling (100000000 * A) b)) (nat-le (omega arith)) (le-refl (steps (pos (ceiling (100000000 * A) b)))) (k .least))));
+    }
   where
     under : (q : ℕ) → q * B ≤ 100000000 * a → Le (mul (steps (pos q)) (nat B)) (nat a)
     under q l = worth-le (worth-mul (steps-worth q) (worth-nat B)) (worth-nat a) (omega arith)
+
     over : (q : ℕ) → 100000000 * A ≤ q * b → Le (nat A) (mul (steps (pos q)) (nat b))
     over q l = worth-le (worth-nat A) (worth-mul (steps-worth q) (worth-nat b)) (omega arith)
 

@@ -104,3 +104,10 @@ ratio-ordered k a A b B o h j =
 pub sized : (z : ℤ) → pos 0 ≤ℤ z → z ≡ pos (natAbs z)
 sized (pos n) h = refl
 sized (negsuc n) h = absurd (h .le)
+
+-- a floor that is at least k
+pub floor-least : (n d k : ℕ) → 0 < d → k * d ≤ n → k ≤ n / d
+floor-least n d k o h =
+    let f = floor-under n d o in
+    let l : k * d < (n / d + 1) * d = omega (arith, f .1) in
+    omega (arith, lt-of-mul-lt-mul-right d l)

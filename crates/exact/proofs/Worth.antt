@@ -50,16 +50,17 @@ add-n xp xm xb yp ym yb p m b q n c h k =
     (spread-n xp yp yb xb b c) (spread-n m n c b xb yb) (spread-n p q c b xb yb) (spread-n xm ym yb xb b c)
   where
     go : xp * b * (yb * c) + m * xb * (yb * c) ≡ p * xb * (yb * c) + xm * b * (yb * c) → yp * c * (xb * b) + n * yb * (xb * b) ≡ q * yb * (xb * b) + ym * c * (xb * b)
-       → (xp * yb + yp * xb) * (b * c) ≡ xp * b * (yb * c) + yp * c * (xb * b) → (m * c + n * b) * (xb * yb) ≡ m * xb * (c * yb) + n * yb * (b * xb)
-       → (p * c + q * b) * (xb * yb) ≡ p * xb * (c * yb) + q * yb * (b * xb) → (xm * yb + ym * xb) * (b * c) ≡ xm * b * (yb * c) + ym * c * (xb * b)
-       → (xp * yb + yp * xb) * (b * c) + (m * c + n * b) * (xb * yb) ≡ (p * c + q * b) * (xb * yb) + (xm * yb + ym * xb) * (b * c)
+        → (xp * yb + yp * xb) * (b * c) ≡ xp * b * (yb * c) + yp * c * (xb * b) → (m * c + n * b) * (xb * yb) ≡ m * xb * (c * yb) + n * yb * (b * xb)
+        → (p * c + q * b) * (xb * yb) ≡ p * xb * (c * yb) + q * yb * (b * xb) → (xm * yb + ym * xb) * (b * c) ≡ xm * b * (yb * c) + ym * c * (xb * b)
+        → (xp * yb + yp * xb) * (b * c) + (m * c + n * b) * (xb * yb) ≡ (p * c + q * b) * (xb * yb) + (xm * yb + ym * xb) * (b * c)
     go a d e f g i = rw (e, f, g, i, mul-comm c yb, mul-comm b xb) (omega arith)
 
 pub worth-add : {x y : Fraction} {p m b q n c : ℕ} → Worth x p m b → Worth y q n c → Worth (add x y) (p * c + q * b) (m * c + n * b) (b * c)
 unfolding add
 worth-add {x} {y} {p} {m} {b} {q} {n} {c} h k = record {
-    positive = mul-pos (h .positive) (k .positive);
-    is = add-n (x .plus) (x .minus) (x .bottom) (y .plus) (y .minus) (y .bottom) p m b q n c (h .is) (k .is) }
+  positive = mul-pos (h .positive) (k .positive);
+  is = add-n (x .plus) (x .minus) (x .bottom) (y .plus) (y .minus) (y .bottom) p m b q n c (h .is) (k .is);
+}
 
 -- of the product of two signed numbers: each equation times both parts of the other number
 mul-n : (xp xm xb yp ym yb p m b q n c : ℕ) → xp * b + m * xb ≡ p * xb + xm * b → yp * c + n * yb ≡ q * yb + ym * c
@@ -70,27 +71,30 @@ mul-n xp xm xb yp ym yb p m b q n c h k =
   where
     end : (a1 a2 a3 a4 b1 b2 b3 b4 c1 c2 c3 c4 : ℕ) → a1 + b1 ≡ b2 + a2 → a3 + b3 ≡ b4 + a4 → b2 + c1 ≡ c2 + b4 → b1 + c3 ≡ c4 + b3 → (a1 + a4) + (c1 + c4) ≡ (c2 + c3) + (a3 + a2)
     end a1 a2 a3 a4 b1 b2 b3 b4 c1 c2 c3 c4 h k l o = omega arith
+
     go : xp * b * (yp * c) + m * xb * (yp * c) ≡ p * xb * (yp * c) + xm * b * (yp * c) → xp * b * (ym * c) + m * xb * (ym * c) ≡ p * xb * (ym * c) + xm * b * (ym * c)
-       → yp * c * (p * xb) + n * yb * (p * xb) ≡ q * yb * (p * xb) + ym * c * (p * xb) → yp * c * (m * xb) + n * yb * (m * xb) ≡ q * yb * (m * xb) + ym * c * (m * xb)
-       → (xp * yp + xm * ym) * (b * c) + (p * n + m * q) * (xb * yb) ≡ (p * q + m * n) * (xb * yb) + (xp * ym + xm * yp) * (b * c)
+        → yp * c * (p * xb) + n * yb * (p * xb) ≡ q * yb * (p * xb) + ym * c * (p * xb) → yp * c * (m * xb) + n * yb * (m * xb) ≡ q * yb * (m * xb) + ym * c * (m * xb)
+        → (xp * yp + xm * ym) * (b * c) + (p * n + m * q) * (xb * yb) ≡ (p * q + m * n) * (xb * yb) + (xp * ym + xm * yp) * (b * c)
     go e f g i =
         rw (spread-m xp xm yp ym b c, spread-m p m n q xb yb, spread-m p m q n xb yb, spread-m xp xm ym yp b c)
         (end (xp * b * (yp * c)) (xm * b * (yp * c)) (xp * b * (ym * c)) (xm * b * (ym * c)) (m * xb * (yp * c)) (p * xb * (yp * c)) (m * xb * (ym * c)) (p * xb * (ym * c))
-          (p * xb * (n * yb)) (p * xb * (q * yb)) (m * xb * (n * yb)) (m * xb * (q * yb)) e f
-          (rw (mul-comm (p * xb) (yp * c), mul-comm (p * xb) (n * yb), mul-comm (p * xb) (q * yb), mul-comm (p * xb) (ym * c)) g)
-          (rw (mul-comm (m * xb) (yp * c), mul-comm (m * xb) (n * yb), mul-comm (m * xb) (q * yb), mul-comm (m * xb) (ym * c)) i))
+        (p * xb * (n * yb)) (p * xb * (q * yb)) (m * xb * (n * yb)) (m * xb * (q * yb)) e f
+        (rw (mul-comm (p * xb) (yp * c), mul-comm (p * xb) (n * yb), mul-comm (p * xb) (q * yb), mul-comm (p * xb) (ym * c)) g)
+        (rw (mul-comm (m * xb) (yp * c), mul-comm (m * xb) (n * yb), mul-comm (m * xb) (q * yb), mul-comm (m * xb) (ym * c)) i))
 
 pub worth-mul : {x y : Fraction} {p m b q n c : ℕ} → Worth x p m b → Worth y q n c → Worth (mul x y) (p * q + m * n) (p * n + m * q) (b * c)
 unfolding mul
 worth-mul {x} {y} {p} {m} {b} {q} {n} {c} h k = record {
-    positive = mul-pos (h .positive) (k .positive);
-    is = mul-n (x .plus) (x .minus) (x .bottom) (y .plus) (y .minus) (y .bottom) p m b q n c (h .is) (k .is) }
+  positive = mul-pos (h .positive) (k .positive);
+  is = mul-n (x .plus) (x .minus) (x .bottom) (y .plus) (y .minus) (y .bottom) p m b q n c (h .is) (k .is);
+}
 
 -- y is above 0, so that its top has a gap: (y.plus − y.minus)·c = q·y.bottom
 gap-n : (yp ym yb q c : ℕ) → 0 < q → 0 < yb → 0 < c → yp * c + 0 * yb ≡ q * yb + ym * c → (0 < yp - ym) × ((yp - ym) * c ≡ q * yb)
 gap-n yp ym yb q c o b d h = elim (decLe yp ym) [
-    yes l ↦ absurd (let k : yp * c ≤ ym * c = mul-le-mul-right c l in let r : 0 < q * yb = mul-pos o b in omega arith)
-  | no l ↦ (omega arith, (let e : yp ≡ ym + (yp - ym) = omega arith in let f : yp * c ≡ (ym + (yp - ym)) * c = ap (λ (z : ℕ). z * c) e in omega arith)) ]
+  | yes l ↦ absurd (let k : yp * c ≤ ym * c = mul-le-mul-right c l in let r : 0 < q * yb = mul-pos o b in omega arith)
+  | no l ↦ (omega arith, (let e : yp ≡ ym + (yp - ym) = omega arith in let f : yp * c ≡ (ym + (yp - ym)) * c = ap (λ (z : ℕ). z * c) e in omega arith))
+]
 
 div-n : (xp xm xb yb g p m b q c : ℕ) → xp * b + m * xb ≡ p * xb + xm * b → g * c ≡ q * yb
     → xp * yb * (b * q) + m * c * (xb * g) ≡ p * c * (xb * g) + xm * yb * (b * q)
@@ -113,7 +117,8 @@ worth-div {x} {y} {p} {m} {b} {q} {c} o h k =
     let bottom : max 1 (x .bottom * (y .plus - y .minus)) ≡ x .bottom * (y .plus - y .minus) = omega arith in
     record {
       positive = mul-pos (h .positive) o;
-      is = rw bottom (div-n (x .plus) (x .minus) (x .bottom) (y .bottom) (y .plus - y .minus) p m b q c (h .is) (s .1)) }
+      is = rw bottom (div-n (x .plus) (x .minus) (x .bottom) (y .bottom) (y .plus - y .minus) p m b q c (h .is) (s .1));
+    }
 
 -- the order of two fractions against the order of their worths
 cross-n : {x y : Fraction} {p m b q n c : ℕ} → Worth x p m b → Worth y q n c
@@ -148,7 +153,9 @@ worth-lt {x} {y} {p} {m} {b} {q} {n} {c} h k l = go (le-or-lt y x)
 
 pub lt-worth : {x y : Fraction} {p m b q n c : ℕ} → Worth x p m b → Worth y q n c → Lt x y → p * c + n * b < q * b + m * c
 lt-worth {x} {y} {p} {m} {b} {q} {n} {c} h k l = elim (cases-lt (p * c + n * b) (q * b + m * c)) [
-    inl e ↦ e | inr e ↦ absurd (not-lt l (worth-le k h (omega arith))) ]
+  | inl e ↦ e
+  | inr e ↦ absurd (not-lt l (worth-le k h (omega arith)))
+]
 
 pub worth-same : {x y : Fraction} {p m b q n c : ℕ} → Worth x p m b → Worth y q n c → p * c + n * b ≡ q * b + m * c → Same x y
 worth-same h k e = same-from (worth-le h k (omega arith)) (worth-le k h (omega arith))

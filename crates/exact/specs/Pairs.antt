@@ -4,10 +4,13 @@ use lib.IntN.{ℤ}
 use Rattle.exact.specs.Fractions.{Fraction, Le, Lt, whole, nat, add, div}
 use Rattle.exact.specs.Figures.{Figure, AtMost, AtLeast, Keeps, Exceeds, Within}
 
--- What a whole number of some unit is worth. `whole` is the unit itself, as of milligrams or microlitres.
+-- What a whole number of some unit is worth: `whole` of the unit itself, as of milligrams or microlitres, and `parts k` of its k-th part.
+abbrev pub parts : ℕ → ℤ → Fraction
+parts k z = div (whole z) (nat k)
+
 -- A step is a hundred-millionth: one percent is 1,000,000 steps.
 abbrev pub steps : ℤ → Fraction
-steps z = div (whole z) (nat 100000000)
+steps = parts 100000000
 
 -- the pair from low to high, in whole numbers of the unit, holds the figure: it lies between the ends, or on one
 pub record Holds (unit : ℤ → Fraction) (low high : ℤ) (f : Figure) : Type 0 where

@@ -34,4 +34,5 @@ returns c =
     simp toZ-ofZ (record {
       low = low;
       high = high;
-      holds = λ x y h k. holds-ends low high (holds-ratio (c .args .top .low) (c .args .top .high) (c .args .bottom .low) (c .args .bottom .high) (c .args .top .ordered) (c .args .bottom .ordered) (c .pre .top .0) (c .pre .bottom) x y h k) })
+      holds = λ x y h k. holds-ends low high (holds-ratio (c .args .top .low) (c .args .top .high) (c .args .bottom .low) (c .args .bottom .high) (c .args .top .ordered) (c .args .bottom .ordered) (c .pre .top .0) (c .pre .bottom) x y h k);
+    })

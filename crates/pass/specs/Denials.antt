@@ -1,0 +1,44 @@
+-- The numbers of denials, and what each carries. Assumes nothing.
+use Prim.Native.Nat.{ℕ}
+use mathlib.Core.List.{List, [], _∷_}
+use Rattle.pass.specs.declared.denials.Field.{Field}
+use Rattle.pass.specs.declared.denials.Field.the-variants.{Together, Pulses, DetectorTime, PulseTime, WallTemperature, VesselPressure, RodTemperature, DensitometerTemperature, DensitometerPressure, Density, MasterPulses, MasterTime}
+use Rattle.pass.specs.declared.denials.Device.{Device}
+use Rattle.pass.specs.declared.denials.Device.the-variants.{Master, Mass}
+use Rattle.pass.specs.declared.denials.Fault.{Fault}
+use Rattle.pass.specs.declared.denials.Denial.{Denial}
+use Rattle.pass.specs.declared.denials.Denial.the-variants.{Figure, Meter, Reference, Value}
+
+-- a field's number in the record; 0 for none alone
+abbrev pub field-number : Field → ℕ
+field-number Together = 0
+field-number Pulses = 1
+field-number DetectorTime = 2
+field-number PulseTime = 3
+field-number WallTemperature = 4
+field-number VesselPressure = 5
+field-number RodTemperature = 6
+field-number DensitometerTemperature = 7
+field-number DensitometerPressure = 8
+field-number Density = 9
+field-number MasterPulses = 10
+field-number MasterTime = 11
+
+-- a device's number
+abbrev pub device-number : Device → ℕ
+device-number Master = 3
+device-number Mass = 5
+
+-- a denial's number
+abbrev pub denial-number : Denial → ℕ
+denial-number (Figure place) = 1
+denial-number (Meter field) = 4
+denial-number (Reference fault) = 5
+denial-number Value = 6
+
+-- what it carries: the place of a figure, the field of the meter's, the device and the field of the reference's
+abbrev pub carried : Denial → List ℕ
+carried (Figure place) = place ∷ []
+carried (Meter field) = field-number field ∷ []
+carried (Reference fault) = device-number (fault .device) ∷ field-number (fault .field) ∷ []
+carried Value = []

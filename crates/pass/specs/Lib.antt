@@ -1,0 +1,5 @@
+pub mod Denials
+pub mod Ranges
+pub mod Gates
+pub mod Meters
+pub mod Values

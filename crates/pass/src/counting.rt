@@ -1,0 +1,63 @@
+// Counting in the gate, alike for every meter that gives pulses.
+ghost use mathlib.Core.Path.{_≡_};
+ghost use mathlib.Core.Bool.{true, false};
+ghost use Prim.Native.Nat.{ℕ, _+_, _-_, _*_, _≤_};
+ghost use lib.IntN.{pos, _+ℤ_};
+ghost use lib.Signed.{_≤ℤ_};
+ghost use Rattle.std.specs.Options.{Cases as BySome};
+ghost use Rattle.exact.specs.Fractions.{whole};
+ghost use Rattle.exact.specs.Figures.{number};
+ghost use Rattle.exact.specs.Pairs.{Holds, parts};
+ghost use Rattle.pass.specs.Ranges.{settable};
+ghost use Rattle.pass.specs.Gates.{matched as in-step, interpolated, mass-of};
+use crate::factor::Factor;
+use crate::gate::Gate;
+use crate::masses::CountedMass;
+use crate::ranges::in_range;
+use exact::pair::Pair;
+use exact::rounding::quotient;
+
+/// Whether the two times differ by at most the mean time of a pulse.
+pub fn matched(pulses: u32, detector_time: u32, pulse_time: u32) -> bool
+    ensures value { λ r. ⌜ r ≡ in-step (pos pulses) (pos «detector_time») (pos «pulse_time») ⌝ }
+    ensures close { λ r. ⌜ (r ≡ true → ((«detector_time» - «pulse_time») + («pulse_time» - «detector_time»)) * pulses ≤ «pulse_time») ⌝ }
+{
+    let apart = detector_time.abs_diff(pulse_time);
+    apart as u64 * pulses as u64 <= pulse_time as u64
+}
+
+impl Factor {
+    /// A factor in its range, or none.
+    pub fn new(ten_thousandths: i32) -> Option<Factor>
+        ensures { λ r. ⌜ BySome r (settable «ten_thousandths» ≡ false) (λ f. (settable «ten_thousandths» ≡ true) × («ten_thousandths» ≡ pos (f .«ten_thousandths»))) ⌝ }
+    {
+        match in_range(ten_thousandths, 10_000_000, 1_000_000_000) {
+            Some(ten_thousandths) => Some(Factor { ten_thousandths }),
+            None => None,
+        }
+    }
+}
+
+impl Gate {
+    /// The interpolated count, in ten-thousandths of a pulse.
+    pub fn count(&self) -> Pair
+        ensures holds { λ r. ⌜ Holds (parts 10000) (r .low) (r .high) (number (interpolated (pos (now (self .entry) .pulses)) (pos (now (self .entry) .«detector_time»)) (pos (now (self .entry) .«pulse_time»)))) ⌝ }
+        ensures narrow { λ r. ⌜ r .high ≤ℤ (r .low +ℤ pos 1) ⌝ }
+    {
+        quotient(
+            10_000 * self.pulses as u128 * self.detector_time as u128,
+            self.pulse_time as u128,
+        )
+    }
+
+    /// The mass of the count at a factor, in milligrams, with one rounding at each end.
+    pub fn mass(&self, factor: &Factor) -> CountedMass
+        ensures holds { λ r. ⌜ Holds whole (r .pair .low) (r .pair .high) (number (mass-of (pos (now (factor .entry) .«ten_thousandths»)) (interpolated (pos (now (self .entry) .pulses)) (pos (now (self .entry) .«detector_time»)) (pos (now (self .entry) .«pulse_time»))))) ⌝ }
+    {
+        let top = 10_000_000_000_000 * self.pulses as u128 * self.detector_time as u128;
+        let bottom = self.pulse_time as u128 * factor.ten_thousandths as u128;
+        CountedMass {
+            pair: quotient(top, bottom),
+        }
+    }
+}

@@ -1,0 +1,10 @@
+// One pass of a prover: its record, the counts in the gate, the masses and the values of the meter.
+pub mod counting;
+pub mod denials;
+pub mod factor;
+pub mod gate;
+pub mod masses;
+pub mod meter;
+pub mod metering;
+pub mod ranges;
+pub mod readings;

@@ -2,7 +2,7 @@
 use Prim.Native.Nat.{ℕ, _+_, _-_, _*_, _/_, _≤_, _<_}
 use mathlib.Core.Path.{_≡_, sym, subst}
 use native.Mathlib.Omega.{arith}
-use lib.IntN.{ℤ, pos, natAbs}
+use lib.IntN.{ℤ, pos, natAbs, _+ℤ_}
 use lib.Dec.{lit<, le→leb}
 use lib.Signed.{_≤ℤ_}
 use Rattle.std.proofs.shelf.Signed.{ints}
@@ -10,8 +10,8 @@ use Rattle.exact.specs.Fractions.{Fraction, Le, Lt, Same, whole, nat, add, sub
 use Rattle.exact.specs.Figures.{Figure, number, AtMost, AtLeast, Exceeds, Keeps, Within}
 use Rattle.exact.specs.Pairs.{Holds, parts, steps, floor, ceiling}
 use Rattle.exact.proofs.Order.{le-refl, le-trans, lt-le, lt-le-trans, not-lt, same-le, same-sym, nat-le, nat-positive}
-use Rattle.exact.proofs.Worth.{Worth, worth-nat, worth-mul, worth-div, worth-le}
-use Rattle.exact.proofs.Arithmetic.{add-mono, sub-least, mul-mono}
+use Rattle.exact.proofs.Worth.{Worth, worth-nat, worth-whole, worth-add, worth-neg, worth-mul, worth-div, worth-le, worth-same}
+use Rattle.exact.proofs.Arithmetic.{add-mono, sub-mono, sub-least, mul-mono}
 use Rattle.exact.proofs.Quotients.{ratio-ordered as ratio-ordered-n, sized, quotient-least, quotient-most, floor-under, ceil-over, nat-least, nat-most}
 use Rattle.exact.proofs.Figures.{lower, higher, apart}
 
@@ -81,3 +81,13 @@ pub ratio-ordered : (a A b B : ℤ) → a ≤ℤ A → b ≤ℤ B → pos 0 ≤�
 ratio-ordered a A b B i j z o =
     let n = ratio-ordered-n 100000000 (natAbs a) (natAbs A) (natAbs b) (natAbs B) (omega (arith, ints)) (omega (arith, ints)) (omega (arith, ints)) in
     record { le = le→leb _ _ n }
+
+-- steps less 1
+steps-less : (l z : ℤ) → z ≡ l +ℤ pos 100000000 → Same (steps l) (sub (steps z) (nat 1))
+steps-less l z e = worth-same (worth-div (lit< tt) (worth-whole l) (worth-nat 100000000)) (worth-add (worth-div (lit< tt) (worth-whole z) (worth-nat 100000000)) (worth-neg (worth-nat 1))) (omega (arith, ints))
+
+pub holds-less : (low high l h : ℤ) → low ≡ l +ℤ pos 100000000 → high ≡ h +ℤ pos 100000000 → (x : Fraction) → Holds steps low high (number x) → Holds steps l h (number (sub x (nat 1)))
+holds-less low high l h e d x k = record {
+  least = le-trans (same-le (steps-less l low e)) (sub-mono (k .least) (le-refl (nat 1)));
+  most = le-trans (sub-mono (k .most) (le-refl (nat 1))) (same-le (same-sym (steps-less h high d)));
+}

@@ -2,3 +2,4 @@
 pub mod laws;
 pub mod pair;
 pub mod rounding;
+pub mod shifts;

@@ -2,4 +2,5 @@ pub mod Denials
 pub mod Ranges
 pub mod Gates
 pub mod Meters
+pub mod Kinds
 pub mod Values

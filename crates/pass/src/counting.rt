@@ -9,7 +9,7 @@ ghost use Rattle.exact.specs.Fractions.{whole};
 ghost use Rattle.exact.specs.Figures.{number};
 ghost use Rattle.exact.specs.Pairs.{Holds, parts};
 ghost use Rattle.pass.specs.Ranges.{settable};
-ghost use Rattle.pass.specs.Gates.{matched as in-step, interpolated, mass-of};
+ghost use Rattle.pass.specs.Gates.{matched as in-step, interpolated, mass-of, mass-low, mass-high};
 use crate::factor::Factor;
 use crate::gate::Gate;
 use crate::masses::CountedMass;
@@ -52,6 +52,8 @@ impl Gate {
 
     /// The mass of the count at a factor, in milligrams, with one rounding at each end.
     pub fn mass(&self, factor: &Factor) -> CountedMass
+        ensures low { λ r. ⌜ r .pair .low ≡ pos (mass-low (now (factor .entry) .«ten_thousandths») (now (self .entry) .pulses) (now (self .entry) .«detector_time») (now (self .entry) .«pulse_time»)) ⌝ }
+        ensures high { λ r. ⌜ r .pair .high ≡ pos (mass-high (now (factor .entry) .«ten_thousandths») (now (self .entry) .pulses) (now (self .entry) .«detector_time») (now (self .entry) .«pulse_time»)) ⌝ }
         ensures holds { λ r. ⌜ Holds whole (r .pair .low) (r .pair .high) (number (mass-of (pos (now (factor .entry) .«ten_thousandths»)) (interpolated (pos (now (self .entry) .pulses)) (pos (now (self .entry) .«detector_time»)) (pos (now (self .entry) .«pulse_time»))))) ⌝ }
     {
         let top = 10_000_000_000_000 * self.pulses as u128 * self.detector_time as u128;

@@ -32,4 +32,4 @@ pub returns : need.returns
 returns c =
     let g = c .args .self .now in
     let f = c .args .factor .now in
-    record { holds = holds-same (mass-same (g .pulses) (g .«detector_time») (g .«pulse_time») (f .«ten_thousandths») (g .counted .0) (omega arith)) (c .quotient .ensures .holds) }
+    record { low = c .quotient .ensures .low; high = c .quotient .ensures .high; holds = holds-same (mass-same (g .pulses) (g .«detector_time») (g .«pulse_time») (f .«ten_thousandths») (g .counted .0) (omega arith)) (c .quotient .ensures .holds) }

@@ -1,5 +1,5 @@
 -- Quotients by what is above 0: bounds go through them, and floor and ceiling enclose them.
-use Prim.Native.Nat.{ℕ, _+_, _*_, _-_, _/_, _<_, _≤_}
+use Prim.Native.Nat.{ℕ, _+_, _*_, _-_, _/_, _^_, _<_, _≤_}
 use mathlib.Core.Path.{_≡_, refl, ap}
 use native.Mathlib.Omega.{arith}
 use native.Mathlib.Nat.{mul-le-mul-left, mul-le-mul-right, le-of-mul-le-mul-right, lt-of-mul-lt-mul-right}
@@ -111,3 +111,10 @@ floor-least n d k o h =
     let f = floor-under n d o in
     let l : k * d < (n / d + 1) * d = omega (arith, f .1) in
     omega (arith, lt-of-mul-lt-mul-right d l)
+
+-- a quotient of at most 10⁹, in steps, fits 63 bits
+pub floor-fits : (n d : ℕ) → 0 < d → n ≤ 1000000000 * d → floor (100000000 * n) d < 2 ^ 63
+floor-fits n d o h = let l = floor-most (100000000 * n) d 100000000000000000 o (omega arith) in omega arith
+
+pub ceil-fits : (n d : ℕ) → 0 < d → n ≤ 1000000000 * d → ceiling (100000000 * n) d < 2 ^ 63
+ceil-fits n d o h = let l = ceil-most (100000000 * n) d 100000000000000000 o (omega arith) in omega arith

@@ -11,7 +11,7 @@ use crate::pair::Pair;
 /// top/bottom, rounded down.
 fn floor(top: u128, bottom: u128) -> i64
     requires some { ⌜ 0 < bottom ⌝ }
-    requires fits { ⌜ top ≤ 1000000000000000000 * bottom ⌝ }
+    requires fits { ⌜ floored top bottom < 2 ^ 63 ⌝ }
     ensures value { λ r. ⌜ r ≡ pos (floored top bottom) ⌝ }
 {
     (top / bottom) as i64
@@ -21,7 +21,7 @@ fn floor(top: u128, bottom: u128) -> i64
 fn ceil(top: u128, bottom: u128) -> i64
     requires some { ⌜ 0 < bottom ⌝ }
     requires small { ⌜ bottom < 2 ^ 126 ⌝ ∗ ⌜ top < 2 ^ 126 ⌝ }
-    requires fits { ⌜ top ≤ 1000000000000000000 * bottom ⌝ }
+    requires fits { ⌜ ceiling top bottom < 2 ^ 63 ⌝ }
     ensures value { λ r. ⌜ r ≡ pos (ceiling top bottom) ⌝ }
 {
     ((top + (bottom - 1)) / bottom) as i64
@@ -31,7 +31,7 @@ fn ceil(top: u128, bottom: u128) -> i64
 pub fn quotient(top: u128, bottom: u128) -> Pair
     requires some { ⌜ 0 < bottom ⌝ }
     requires small { ⌜ bottom < 2 ^ 126 ⌝ ∗ ⌜ top < 2 ^ 126 ⌝ }
-    requires fits { ⌜ top ≤ 1000000000000000000 * bottom ⌝ }
+    requires fits { ⌜ ceiling top bottom < 2 ^ 63 ⌝ }
     ensures low { λ r. ⌜ r .low ≡ pos (floored top bottom) ⌝ }
     ensures high { λ r. ⌜ r .high ≡ pos (ceiling top bottom) ⌝ }
     ensures holds { λ r. ⌜ Holds whole (r .low) (r .high) (number (div (nat top) (nat bottom))) ⌝ }
@@ -55,7 +55,7 @@ fn natural(end: i64) -> u128
 fn steps_floor(top: i64, bottom: i64) -> i64
     requires top { ⌜ pos 0 ≤ℤ top ⌝ ∗ ⌜ top ≤ℤ pos 1000000000000 ⌝ }
     requires bottom { ⌜ pos 1 ≤ℤ bottom ⌝ }
-    requires fits { ⌜ natAbs top ≤ 1000000000 * natAbs bottom ⌝ }
+    requires fits { ⌜ floored (100000000 * natAbs top) (natAbs bottom) < 2 ^ 63 ⌝ }
     ensures value { λ r. ⌜ r ≡ pos (floored (100000000 * natAbs top) (natAbs bottom)) ⌝ }
 {
     floor(100_000_000 * natural(top), natural(bottom))
@@ -65,7 +65,7 @@ fn steps_floor(top: i64, bottom: i64) -> i64
 fn steps_ceil(top: i64, bottom: i64) -> i64
     requires top { ⌜ pos 0 ≤ℤ top ⌝ ∗ ⌜ top ≤ℤ pos 1000000000000 ⌝ }
     requires bottom { ⌜ pos 1 ≤ℤ bottom ⌝ }
-    requires fits { ⌜ natAbs top ≤ 1000000000 * natAbs bottom ⌝ }
+    requires fits { ⌜ ceiling (100000000 * natAbs top) (natAbs bottom) < 2 ^ 63 ⌝ }
     ensures value { λ r. ⌜ r ≡ pos (ceiling (100000000 * natAbs top) (natAbs bottom)) ⌝ }
 {
     ceil(100_000_000 * natural(top), natural(bottom))

@@ -8,6 +8,14 @@ ghost use Rattle.exact.specs.Figures.{number};
 ghost use Rattle.exact.specs.Pairs.{Holds, steps};
 use crate::pair::Pair;
 
+/// An end less 1, in steps.
+fn end_less_one(end: i64) -> i64
+    requires { ⌜ pos 0 ≤ℤ end ⌝ }
+    ensures { λ r. ⌜ end ≡ r +ℤ pos 100000000 ⌝ }
+{
+    end - 100_000_000
+}
+
 /// A figure less 1, in steps.
 pub fn less_one(pair: Pair) -> Pair
     requires { ⌜ pos 0 ≤ℤ pair .low ⌝ }
@@ -16,7 +24,7 @@ pub fn less_one(pair: Pair) -> Pair
     ensures holds { λ r. ⌜ ((x : Fraction) → Holds steps (pair .low) (pair .high) (number x) → Holds steps (r .low) (r .high) (number (sub x (nat 1)))) ⌝ }
 {
     Pair {
-        low: pair.low - 100_000_000,
-        high: pair.high - 100_000_000,
+        low: end_less_one(pair.low),
+        high: end_less_one(pair.high),
     }
 }

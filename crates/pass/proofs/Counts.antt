@@ -22,24 +22,21 @@ count-least n d p some close =
     let b : 1100 * p ≤ n * p = mul-le-mul-right p some in
     omega arith
 
-pub product-most : (n d : ℕ) → n ≤ 800000 → d ≤ 600000000 → n * d ≤ 800000 * 600000000
-product-most n d h k = mul-le-mul h k
+-- of the mass: 10¹³·c over p·k, c being the product n·d
+pub mass-most : (c p k : ℕ) → c ≤ 800001 * p → 10000000 ≤ k → 10000000000000 * c ≤ 800001000000 * (p * k)
+mass-most c p k h l = let a : p * 10000000 ≤ p * k = mul-le-mul-left p l in omega arith
 
--- of the mass: 10¹³·n·d over p·k
-pub mass-most : (n d p k : ℕ) → n * d ≤ 800001 * p → 10000000 ≤ k → 10000000000000 * n * d ≤ 800001000000 * (p * k)
-mass-most n d p k h l = let a : p * 10000000 ≤ p * k = mul-le-mul-left p l in omega arith
+pub mass-least : (c p k : ℕ) → 1099 * p ≤ c → k ≤ 1000000000 → 10990000 * (p * k) ≤ 10000000000000 * c
+mass-least c p k h l = let a : p * k ≤ p * 1000000000 = mul-le-mul-left p l in omega arith
 
-pub mass-least : (n d p k : ℕ) → 1099 * p ≤ n * d → k ≤ 1000000000 → 10990000 * (p * k) ≤ 10000000000000 * n * d
-mass-least n d p k h l = let a : p * k ≤ p * 1000000000 = mul-le-mul-left p l in omega arith
-
-pub mass-same : (n d p k : ℕ) → 0 < p → 0 < k → Same (div (nat (10000000000000 * n * d)) (nat (p * k))) (mass-of (pos k) (interpolated (pos n) (pos d) (pos p)))
+pub mass-same : (c n d p k : ℕ) → c ≡ n * d → 0 < p → 0 < k → Same (div (nat (10000000000000 * c)) (nat (p * k))) (mass-of (pos k) (interpolated (pos n) (pos d) (pos p)))
 unfolding mass-of interpolated
-mass-same n d p k o q =
-    worth-same (worth-div (mul-pos o q) (worth-nat (10000000000000 * n * d)) (worth-nat (p * k)))
-    (worth-div q (worth-mul (worth-nat 10000000000000) (worth-div o (worth-mul (worth-nat n) (worth-nat d)) (worth-nat p))) (worth-nat k)) (omega arith)
+mass-same c n d p k e o q =
+    worth-same (worth-div (mul-pos o q) (worth-nat (10000000000000 * c)) (worth-nat (p * k)))
+    (worth-div q (worth-mul (worth-nat 10000000000000) (worth-div o (worth-mul (worth-nat n) (worth-nat d)) (worth-nat p))) (worth-nat k)) (rw e (omega arith))
 
-pub count-same : (n d p : ℕ) → 0 < p → Same (div (nat (10000 * n * d)) (nat p)) (mul (interpolated (pos n) (pos d) (pos p)) (nat 10000))
+pub count-same : (c n d p : ℕ) → c ≡ n * d → 0 < p → Same (div (nat (10000 * c)) (nat p)) (mul (interpolated (pos n) (pos d) (pos p)) (nat 10000))
 unfolding interpolated
-count-same n d p o =
-    worth-same (worth-div o (worth-nat (10000 * n * d)) (worth-nat p))
-    (worth-mul (worth-div o (worth-mul (worth-nat n) (worth-nat d)) (worth-nat p)) (worth-nat 10000)) (omega arith)
+count-same c n d p e o =
+    worth-same (worth-div o (worth-nat (10000 * c)) (worth-nat p))
+    (worth-mul (worth-div o (worth-mul (worth-nat n) (worth-nat d)) (worth-nat p)) (worth-nat 10000)) (rw e (omega arith))

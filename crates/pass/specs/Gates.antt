@@ -22,7 +22,7 @@ mass-of factor count = div (mul (nat 10000000000000) count) (whole factor)
 
 -- that mass rounded down and up to whole milligrams, in naturals: 10¹³·N·Td/(Tp·K)
 abbrev pub mass-low : ℕ → ℕ → ℕ → ℕ → ℕ
-mass-low factor pulses detector pulse = floor (10000000000000 * pulses * detector) (pulse * factor)
+mass-low factor pulses detector pulse = floor (10000000000000 * (pulses * detector)) (pulse * factor)
 
 abbrev pub mass-high : ℕ → ℕ → ℕ → ℕ → ℕ
-mass-high factor pulses detector pulse = ceiling (10000000000000 * pulses * detector) (pulse * factor)
+mass-high factor pulses detector pulse = ceiling (10000000000000 * (pulses * detector)) (pulse * factor)

@@ -1,3 +1,4 @@
+pub mod Readings
 pub mod Denials
 pub mod Ranges
 pub mod Gates

@@ -1,7 +1,8 @@
 -- The meter under test: which records it takes, and the mass that it counts. Assumes nothing.
 use mathlib.Core.Path.{_≡_}
 use mathlib.Core.Bool.{Bool, true, false, _&&_, cond}
-use lib.IntN.{ℤ, pos, _+ℤ_}
+use Prim.Native.Nat.{ℕ}
+use lib.IntN.{ℤ, pos, natAbs, _+ℤ_}
 use lib.Signed.{_≤ℤ_}
 use Rattle.std.specs.declared.result.Result.{Result}
 use Rattle.std.specs.declared.result.Result.the-variants.{Ok, Err}
@@ -10,7 +11,7 @@ use Rattle.exact.specs.Figures.{number}
 use Rattle.exact.specs.Pairs.{Holds, parts}
 use Rattle.exact.specs.declared.pair.Pair.{Pair}
 use Rattle.pass.specs.Ranges.{countable, lasting, settable}
-use Rattle.pass.specs.Gates.{matched, interpolated, mass-of}
+use Rattle.pass.specs.Gates.{matched, interpolated, mass-of, mass-low, mass-high}
 use Rattle.pass.specs.declared.readings.Record.{Record}
 use Rattle.pass.specs.declared.denials.Field.{Field}
 use Rattle.pass.specs.declared.denials.Field.the-variants.{Pulses, DetectorTime, PulseTime}
@@ -33,8 +34,15 @@ abbrev pub meter-count : Record → Fraction
 meter-count r = interpolated (r .pulses) (r .«detector_time») (r .«pulse_time»)
 
 -- the mass that the meter counts, in milligrams, at its set factor
-abbrev pub meter-mass : ℤ → Record → Fraction
-meter-mass factor r = mass-of factor (meter-count r)
+abbrev pub meter-mass : ℕ → Record → Fraction
+meter-mass factor r = mass-of (pos factor) (meter-count r)
+
+-- its pair: rounded down and up once to whole milligrams
+abbrev pub meter-low : ℕ → Record → ℕ
+meter-low factor r = mass-low factor (natAbs (r .pulses)) (natAbs (r .«detector_time»)) (natAbs (r .«pulse_time»))
+
+abbrev pub meter-high : ℕ → Record → ℕ
+meter-high factor r = mass-high factor (natAbs (r .pulses)) (natAbs (r .«detector_time»)) (natAbs (r .«pulse_time»))
 
 -- Opening a meter gives one with exactly this set factor, or the denial of figure 1.
 abbrev pub MeterOpened : ℤ → Result Meter Denial → Type 0
@@ -50,6 +58,7 @@ abbrev pub Counted : Record → Result Pair Denial → Type 0
 Counted r (Ok p) = (meter-takes r ≡ true) × Holds (parts 10000) (p .low) (p .high) (number (meter-count r)) × (p .high ≤ℤ (p .low +ℤ pos 1))
 Counted r (Err d) = (meter-takes r ≡ false) × (d ≡ MeterDenial (meter-fault r))
 
-abbrev pub Metered : ℤ → Record → Result CountedMass Denial → Type 0
-Metered factor r (Ok m) = (meter-takes r ≡ true) × Holds whole (m .pair .low) (m .pair .high) (number (meter-mass factor r)) × (m .pair .high ≤ℤ (m .pair .low +ℤ pos 1))
+abbrev pub Metered : ℕ → Record → Result CountedMass Denial → Type 0
+Metered factor r (Ok m) = (meter-takes r ≡ true) × (m .pair .low ≡ pos (meter-low factor r)) × (m .pair .high ≡ pos (meter-high factor r))
+    × Holds whole (m .pair .low) (m .pair .high) (number (meter-mass factor r)) × (m .pair .high ≤ℤ (m .pair .low +ℤ pos 1))
 Metered factor r (Err d) = (meter-takes r ≡ false) × (d ≡ MeterDenial (meter-fault r))

@@ -39,15 +39,21 @@ impl Factor {
 }
 
 impl Gate {
+    /// N·Td, the top of the interpolated count; its bottom is Tp.
+    fn product(&self) -> u128
+        ensures value { λ r. ⌜ r ≡ now (self .entry) .pulses * now (self .entry) .«detector_time» ⌝ }
+        ensures least { λ r. ⌜ 1099 * now (self .entry) .«pulse_time» ≤ r ⌝ }
+        ensures most { λ r. ⌜ r ≤ 800001 * now (self .entry) .«pulse_time» ⌝ }
+    {
+        self.pulses as u128 * self.detector_time as u128
+    }
+
     /// The interpolated count, in ten-thousandths of a pulse.
     pub fn count(&self) -> Pair
         ensures holds { λ r. ⌜ Holds (parts 10000) (r .low) (r .high) (number (interpolated (pos (now (self .entry) .pulses)) (pos (now (self .entry) .«detector_time»)) (pos (now (self .entry) .«pulse_time»)))) ⌝ }
         ensures narrow { λ r. ⌜ r .high ≤ℤ (r .low +ℤ pos 1) ⌝ }
     {
-        quotient(
-            10_000 * self.pulses as u128 * self.detector_time as u128,
-            self.pulse_time as u128,
-        )
+        quotient(10_000 * self.product(), self.pulse_time as u128)
     }
 
     /// The mass of the count at a factor, in milligrams, with one rounding at each end.
@@ -56,10 +62,7 @@ impl Gate {
         ensures high { λ r. ⌜ r .pair .high ≡ pos (mass-high (now (factor .entry) .«ten_thousandths») (now (self .entry) .pulses) (now (self .entry) .«detector_time») (now (self .entry) .«pulse_time»)) ⌝ }
         ensures holds { λ r. ⌜ Holds whole (r .pair .low) (r .pair .high) (number (mass-of (pos (now (factor .entry) .«ten_thousandths»)) (interpolated (pos (now (self .entry) .pulses)) (pos (now (self .entry) .«detector_time»)) (pos (now (self .entry) .«pulse_time»))))) ⌝ }
     {
-        let top = 10_000_000_000_000 * self.pulses as u128 * self.detector_time as u128;
         let bottom = self.pulse_time as u128 * factor.ten_thousandths as u128;
-        CountedMass {
-            pair: quotient(top, bottom),
-        }
+        CountedMass { pair: quotient(10_000_000_000_000 * self.product(), bottom) }
     }
 }

@@ -1,7 +1,9 @@
 // One pass of a prover: its record, the counts in the gate, the masses and the values of the meter.
 pub mod acceptance;
 pub mod counting;
+pub mod fields;
 pub mod denials;
+pub mod numbers;
 pub mod factor;
 pub mod gate;
 pub mod kinds;

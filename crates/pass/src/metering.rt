@@ -1,5 +1,4 @@
 // The meter under test: its opening, its count in the gate and the mass that it counted.
-ghost use lib.IntN.{pos};
 ghost use Rattle.pass.specs.Meters.{MeterOpened, Gated, Counted, Metered};
 use crate::counting::matched;
 use crate::denials::Denial;
@@ -56,7 +55,7 @@ impl Meter {
 
     /// The mass that the meter counted in a pass, in milligrams.
     pub fn mass(&self, pass: &Record) -> Result<CountedMass, Denial>
-        ensures { λ r. ⌜ Metered (pos (now (self .entry) .factor .«ten_thousandths»)) (now (pass .entry)) r ⌝ }
+        ensures { λ r. ⌜ Metered (now (self .entry) .factor .«ten_thousandths») (now (pass .entry)) r ⌝ }
     {
         let gate = Meter::gate(pass)?;
         Ok(gate.mass(&self.factor))

@@ -4,7 +4,9 @@ use borrow.Author.Needs.{needs}
 use lib.IntN.{pos, natAbs}
 use mir.Syntax.{w64}
 use mir.Val.{SFits}
-use Rattle.std.proofs.shelf.Signed.{toZ-ofZ}
+use native.Mathlib.Omega.{arith}
+use Rattle.std.proofs.shelf.Signed.{ints, toZ-ofZ}
+use Rattle.exact.proofs.Quotients.{floor-fits, ceil-fits}
 use Rattle.exact.specs.Pairs.{floor, ceiling}
 use Rattle.exact.proofs.Pairs.{holds-ends, holds-ratio, ratio-ordered}
 use Rattle.exact.proofs.rounding.ratio.Needs as need
@@ -36,3 +38,21 @@ returns c =
       high = high;
       holds = λ x y h k. holds-ends low high (holds-ratio (c .args .top .low) (c .args .top .high) (c .args .bottom .low) (c .args .bottom .high) (c .args .top .ordered) (c .args .bottom .ordered) (c .pre .top .0) (c .pre .bottom) x y h k);
     })
+
+pub steps-floor-requires : need.steps-floor-requires
+steps-floor-requires c κs =
+    let tl : SFits w64 (c .args .top .low) = search needs in
+    let bh : SFits w64 (c .args .bottom .high) = search needs in
+    simp toZ-ofZ (record {
+      top = (c .pre .top .0, omega (arith, ints));
+      bottom = omega (arith, ints);
+      fits = floor-fits (natAbs (c .args .top .low)) (natAbs (c .args .bottom .high)) (omega (arith, ints)) (omega (arith, ints)) })
+
+pub steps-ceil-requires : need.steps-ceil-requires
+steps-ceil-requires c κs =
+    let th : SFits w64 (c .args .top .high) = search needs in
+    let bl : SFits w64 (c .args .bottom .low) = search needs in
+    simp toZ-ofZ (record {
+      top = (omega (arith, ints), c .pre .top .1);
+      bottom = c .pre .bottom;
+      fits = ceil-fits (natAbs (c .args .top .high)) (natAbs (c .args .bottom .low)) (omega (arith, ints)) (c .pre .fits) })

@@ -1,0 +1,40 @@
+// What the program prints.
+use exact::pair::Pair;
+use pass::denials::Denial;
+use sheet::figures::Sheet;
+use std::io;
+
+fn pair(rt: &LibcRuntime, name: &str, p: Pair, unit: &str) -> io::Result<()> {
+    let low = p.low;
+    let high = p.high;
+    println!(rt, "  {name} {low} {high} {unit}")
+}
+
+/// The six pairs of a sheet, lower end first.
+pub fn sheet(rt: &LibcRuntime, s: &Sheet) -> io::Result<()> {
+    println!(rt, "sheet")?;
+    pair(rt, "count", s.count, "ten-thousandths of a pulse")?;
+    pair(rt, "meter mass", s.meter_mass, "mg")?;
+    pair(rt, "reference mass", s.reference_mass, "mg")?;
+    pair(rt, "K", s.pulse_factor, "steps of the set factor")?;
+    pair(rt, "MF", s.meter_factor, "steps")?;
+    pair(rt, "F", s.correction, "steps")
+}
+
+/// A denial: its number, and what it carries.
+pub fn denied(rt: &LibcRuntime, d: Denial) -> io::Result<()> {
+    let number = d.number();
+    match d {
+        Denial::Figure(place) => println!(rt, "denied {number} place {place}"),
+        Denial::Meter(field) => {
+            let f = field.number();
+            println!(rt, "denied {number} field {f}")
+        }
+        Denial::Reference(fault) => {
+            let d = fault.device.number();
+            let f = fault.field.number();
+            println!(rt, "denied {number} device {d} field {f}")
+        }
+        Denial::Value => println!(rt, "denied {number}"),
+    }
+}

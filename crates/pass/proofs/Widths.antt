@@ -1,10 +1,10 @@
 -- The widths of values, in whole numbers: the reference's mass lies between a and A, the meter's between b and B, in milligrams.
 use Prim.Native.Nat.{ℕ, _+_, _-_, _*_, _/_, _<_, _≤_}
-use mathlib.Core.Path.{_≡_}
-use mathlib.Core.Bool.{true}
+use mathlib.Core.Path.{_≡_, subst}
+use mathlib.Core.Bool.{Bool, true}
 use native.Mathlib.Omega.{arith}
 use native.Mathlib.Nat.{mul-le-mul, mul-le-mul-left, mul-le-mul-right, le-of-mul-le-mul-right}
-use lib.IntN.{pos}
+use lib.IntN.{ℤ, pos}
 use Rattle.std.proofs.shelf.Ways.{tells}
 use Rattle.exact.specs.Pairs.{floor, ceiling}
 use Rattle.exact.proofs.Quotients.{floor-under, ceil-over, floor-least, floor-most, ceil-most}
@@ -16,6 +16,10 @@ near-low q r h = grind (arith, tells)
 
 near-high : (q r : ℕ) → near-one (pos q) (pos r) ≡ true → r ≤ 110000000
 near-high q r h = grind (arith, tells)
+
+-- the test at ends that are given otherwise
+pub near-same : {t : Bool} {low high l h : ℤ} → t ≡ near-one low high → low ≡ l → high ≡ h → t ≡ near-one l h
+near-same {t} {low} {high} {l} {h} e f g = subst (λ (z : ℤ). t ≡ near-one l z) g (subst (λ (z : ℤ). t ≡ near-one z high) f e)
 
 -- a meter factor in 0.9 to 1.1: 9·B ≤ 10·a and 10·A ≤ 11·b
 pub near-masses : (a A b B : ℕ) → 0 < b → 0 < B → near-one (pos (floor (100000000 * a) B)) (pos (ceiling (100000000 * A) b)) ≡ true → (9 * B ≤ 10 * a) × (10 * A ≤ 11 * b)

@@ -1,8 +1,10 @@
 // Which passes are accepted, by the meter factor between their two masses.
+ghost use Prim.Native.Nat.{_*_, _≤_};
+ghost use lib.IntN.{natAbs};
 ghost use mathlib.Core.Path.{_≡_};
 ghost use mathlib.Core.Bool.{true, false, _&&_};
 ghost use Rattle.std.specs.Options.{Cases as BySome};
-ghost use Rattle.pass.specs.Values.{weighable, fine, near-one, Accepted};
+ghost use Rattle.pass.specs.Values.{weighable, fine, near-one, acceptable as acceptably, Accepted};
 use crate::denials::Denial;
 use crate::masses::CountedMass;
 use crate::masses::Masses;
@@ -32,13 +34,20 @@ fn near_one(factor: Pair) -> bool
     factor.low >= 90_000_000 && factor.high <= 110_000_000
 }
 
+/// Whether a pass is accepted, by the meter factor's pair between its two masses.
+fn acceptable(meter: &CountedMass, reference: &ReferenceMass) -> bool
+    ensures value { λ r. ⌜ r ≡ acceptably (now (meter .entry) .pair) (now (reference .entry) .pair) ⌝ }
+    ensures near { λ r. ⌜ (r ≡ true → (9 * natAbs (now (meter .entry) .pair .high) ≤ 10 * natAbs (now (reference .entry) .pair .low)) × (10 * natAbs (now (reference .entry) .pair .high) ≤ 11 * natAbs (now (meter .entry) .pair .low))) ⌝ }
+{
+    near_one(ratio(reference.pair, meter.pair))
+}
+
 impl Masses {
     /// The two masses of a pass, if it is accepted.
     pub fn accept(meter: CountedMass, reference: ReferenceMass) -> Result<Masses, Denial>
         ensures { λ r. ⌜ Accepted meter reference r ⌝ }
     {
-        let factor = ratio(reference.pair, meter.pair);
-        if near_one(factor) {
+        if acceptable(&meter, &reference) {
             Ok(Masses { meter, reference })
         } else {
             Err(Denial::Value)

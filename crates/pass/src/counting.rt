@@ -22,8 +22,8 @@ pub fn matched(pulses: u32, detector_time: u32, pulse_time: u32) -> bool
     ensures value { λ r. ⌜ r ≡ in-step (pos pulses) (pos «detector_time») (pos «pulse_time») ⌝ }
     ensures close { λ r. ⌜ (r ≡ true → ((«detector_time» - «pulse_time») + («pulse_time» - «detector_time»)) * pulses ≤ «pulse_time») ⌝ }
 {
-    let apart = detector_time.abs_diff(pulse_time);
-    apart as u64 * pulses as u64 <= pulse_time as u64
+    let apart = u64::from(detector_time.abs_diff(pulse_time));
+    apart * u64::from(pulses) <= u64::from(pulse_time)
 }
 
 impl Factor {
@@ -63,6 +63,8 @@ impl Gate {
         ensures holds { λ r. ⌜ Holds whole (r .pair .low) (r .pair .high) (number (mass-of (pos (now (factor .entry) .«ten_thousandths»)) (interpolated (pos (now (self .entry) .pulses)) (pos (now (self .entry) .«detector_time»)) (pos (now (self .entry) .«pulse_time»))))) ⌝ }
     {
         let bottom = self.pulse_time as u128 * factor.ten_thousandths as u128;
-        CountedMass { pair: quotient(10_000_000_000_000 * self.product(), bottom) }
+        CountedMass {
+            pair: quotient(10_000_000_000_000 * self.product(), bottom),
+        }
     }
 }

@@ -39,7 +39,11 @@ impl MasterLine {
         }
         let (factors, fields) = numbers.split_at(2);
         match Record::of(fields) {
-            Some(pass) => Some(MasterLine { set_factor: factors[0], master_factor: factors[1], pass }),
+            Some(pass) => Some(MasterLine {
+                set_factor: factors[0],
+                master_factor: factors[1],
+                pass,
+            }),
             None => None,
         }
     }

@@ -29,18 +29,34 @@ impl MasterMeter {
     {
         let device = Device::Master;
         let Some(detector_time) = in_range(pass.detector_time, 1, 600_000_000) else {
-            return Err(Fault { device, field: Field::DetectorTime });
+            return Err(Fault {
+                device,
+                field: Field::DetectorTime,
+            });
         };
         let Some(pulses) = in_range(pass.master_pulses, 1_100, 800_000) else {
-            return Err(Fault { device, field: Field::MasterPulses });
+            return Err(Fault {
+                device,
+                field: Field::MasterPulses,
+            });
         };
         let Some(pulse_time) = in_range(pass.master_time, 1, 600_000_000) else {
-            return Err(Fault { device, field: Field::MasterTime });
+            return Err(Fault {
+                device,
+                field: Field::MasterTime,
+            });
         };
         if !matched(pulses, detector_time, pulse_time) {
-            return Err(Fault { device, field: Field::MasterTime });
+            return Err(Fault {
+                device,
+                field: Field::MasterTime,
+            });
         }
-        Ok(Gate { pulses, detector_time, pulse_time })
+        Ok(Gate {
+            pulses,
+            detector_time,
+            pulse_time,
+        })
     }
 
     /// The mass of a pass by the master meter, in milligrams.
@@ -51,7 +67,10 @@ impl MasterMeter {
         let counted = gate.mass(&self.factor);
         match ReferenceMass::new(counted.pair) {
             Some(mass) => Ok(mass),
-            None => Err(Fault { device: Device::Mass, field: Field::Together }),
+            None => Err(Fault {
+                device: Device::Mass,
+                field: Field::Together,
+            }),
         }
     }
 }

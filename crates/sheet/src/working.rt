@@ -36,7 +36,11 @@ impl Sheet {
     }
 
     /// The sheet of a pass against a master meter, or why it is denied: first by the meter, then by the reference, then by the value.
-    pub fn against_master(meter: &Meter, master: &MasterMeter, pass: &Record) -> Result<Sheet, Denial>
+    pub fn against_master(
+        meter: &Meter,
+        master: &MasterMeter,
+        pass: &Record,
+    ) -> Result<Sheet, Denial>
         ensures { λ r. ⌜ WorkedOut (now (meter .entry) .factor .«ten_thousandths») (now (master .entry) .factor .«ten_thousandths») (now (pass .entry)) r ⌝ }
     {
         let count = Meter::count(pass)?;

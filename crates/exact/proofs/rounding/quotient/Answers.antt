@@ -17,4 +17,5 @@ returns c =
       low = omega (arith, ints);
       high = omega (arith, ints);
       holds = holds-ends (omega (arith, ints)) (omega (arith, ints)) (holds-quotient (c .args .top) (c .args .bottom) (c .pre .some));
-      narrow = omega (arith, ints) }
+      narrow = omega (arith, ints);
+    }

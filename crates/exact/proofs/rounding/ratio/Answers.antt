@@ -46,7 +46,8 @@ steps-floor-requires c κs =
     simp toZ-ofZ (record {
       top = (c .pre .top .0, omega (arith, ints));
       bottom = omega (arith, ints);
-      fits = floor-fits (natAbs (c .args .top .low)) (natAbs (c .args .bottom .high)) (omega (arith, ints)) (omega (arith, ints)) })
+      fits = floor-fits (natAbs (c .args .top .low)) (natAbs (c .args .bottom .high)) (omega (arith, ints)) (omega (arith, ints));
+    })
 
 pub steps-ceil-requires : need.steps-ceil-requires
 steps-ceil-requires c κs =
@@ -55,4 +56,5 @@ steps-ceil-requires c κs =
     simp toZ-ofZ (record {
       top = (omega (arith, ints), c .pre .top .1);
       bottom = c .pre .bottom;
-      fits = ceil-fits (natAbs (c .args .top .high)) (natAbs (c .args .bottom .low)) (omega (arith, ints)) (c .pre .fits) })
+      fits = ceil-fits (natAbs (c .args .top .high)) (natAbs (c .args .bottom .low)) (omega (arith, ints)) (c .pre .fits);
+    })

@@ -17,4 +17,5 @@ returns c =
     let g = c .args .self .now in
     record {
       holds = holds-parts 10000 (lit< tt) _ _ _ (holds-same (count-same (c .product .result) (g .pulses) (g .«detector_time») (g .«pulse_time») (c .product .ensures .value) (g .counted .0)) (c .quotient .ensures .holds));
-      narrow = c .quotient .ensures .narrow }
+      narrow = c .quotient .ensures .narrow;
+    }

@@ -37,4 +37,5 @@ returns c =
     record {
       low = cc;
       high = cc;
-      holds = holds-same (mass-same (c .product .result) (g .pulses) (g .«detector_time») (g .«pulse_time») (f .«ten_thousandths») product (g .counted .0) (omega arith)) (c .quotient .ensures .holds) }
+      holds = holds-same (mass-same (c .product .result) (g .pulses) (g .«detector_time») (g .«pulse_time») (f .«ten_thousandths») product (g .counted .0) (omega arith)) (c .quotient .ensures .holds);
+    }

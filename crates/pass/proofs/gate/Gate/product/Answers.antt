@@ -8,4 +8,5 @@ returns c =
     record {
       value = refl;
       least = count-least (g .pulses) (g .«detector_time») (g .«pulse_time») (g .countable .0) (g .matched);
-      most = count-most (g .pulses) (g .«detector_time») (g .«pulse_time») (g .countable .1) (g .matched) }
+      most = count-most (g .pulses) (g .«detector_time») (g .«pulse_time») (g .countable .1) (g .matched);
+    }

@@ -2,6 +2,7 @@
 use Prim.Native.Nat.{ℕ, _+_, _*_, _-_, _<_, _≤_, max}
 use native.Mathlib.Nat.{mul-pos}
 use native.Mathlib.Omega.{arith}
+use mathlib.Core.Logic.{_⊎_}
 use mathlib.Core.Path.{_≡_}
 use lib.Dec.{lit<}
 use lib.IntN.{ℤ, pos}
@@ -56,3 +57,17 @@ positive-max n = omega arith
 -- a / b, where b is above 0; the bottom is kept from 0 elsewhere, where the quotient has no meaning
 unfoldable pub div : Fraction → Fraction → Fraction
 div a b = record { plus = a .plus * b .bottom; minus = a .minus * b .bottom; bottom = max 1 (a .bottom * (b .plus - b .minus)); positive = positive-max (a .bottom * (b .plus - b .minus)) }
+
+-- The laws that everything later rests on: the order is reflexive, transitive and total; sums, negations and products keep bounds;
+-- a quotient by b, which is above 0, is at least q exactly if q·b ≤ a, and at most q exactly if a ≤ q·b.
+abbrev pub FractionLaws : Type 0
+FractionLaws =
+    ((a : Fraction) → Le a a)
+    × ((a b c : Fraction) → Le a b → Le b c → Le a c)
+    × ((a b : Fraction) → Le a b ⊎ Lt b a)
+    × ((a b : Fraction) → Lt a b → Le b a → ⊥)
+    × ((a b c d : Fraction) → Le a b → Le c d → Le (add a c) (add b d))
+    × ((a b : Fraction) → Le a b → Le (neg b) (neg a))
+    × ((a b c d : Fraction) → Le (nat 0) b → Le (nat 0) c → Le a b → Le c d → Le (mul a c) (mul b d))
+    × ((a b q : Fraction) → Lt (nat 0) b → (Le (mul q b) a → Le q (div a b)) × (Le q (div a b) → Le (mul q b) a))
+    × ((a b q : Fraction) → Lt (nat 0) b → (Le a (mul q b) → Le (div a b) q) × (Le (div a b) q → Le a (mul q b)))

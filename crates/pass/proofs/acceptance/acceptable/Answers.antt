@@ -12,4 +12,5 @@ returns c =
     let value = near-same (c .near-one .ensures) (c .ratio .ensures .low) (c .ratio .ensures .high) in
     record {
       value = value;
-      near = λ t. near-masses (natAbs (r .low)) (natAbs (r .high)) (natAbs (m .low)) (natAbs (m .high)) (omega (arith, ints)) (omega (arith, ints)) (sym value ∙ t) }
+      near = λ t. near-masses (natAbs (r .low)) (natAbs (r .high)) (natAbs (m .low)) (natAbs (m .high)) (omega (arith, ints)) (omega (arith, ints)) (sym value ∙ t);
+    }

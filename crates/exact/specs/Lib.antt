@@ -1,3 +1,4 @@
 pub mod Fractions
 pub mod Figures
 pub mod Pairs
+pub mod Ends

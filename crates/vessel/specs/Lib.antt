@@ -1,0 +1,3 @@
+pub mod Vessels
+pub mod Walls
+pub mod Provers

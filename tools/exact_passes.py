@@ -30,11 +30,41 @@ def counts(n, td, tp):
     return abs(td - tp) * n <= tp
 
 
+def volume(figures, fields, compact):
+    v0, d, s, e, *alphas = figures
+    tv, pv, td = fields[3], fields[4], fields[5]
+    ranges = [(10**4, v0, 2 * 10**7), (100, d, 15000), (10, s, 500), (10**5, e, 250000)]
+    ranges += [(0, alphas[0], 6000), (0, alphas[1], 3000)] if compact else [(0, alphas[0], 3000)]
+    for place, (least, x, most) in enumerate(ranges, 1):
+        if not fits(least, x, most):
+            return ["denied 1 place %d" % place]
+    for field, ok in (4, fits(-1000, tv, 5000)), (5, fits(0, pv, 10000)), (6, not compact or fits(-1000, td, 5000)):
+        if not ok:
+            return ["fault field %d" % field]
+    warm, rod = Q(tv, 100) - 20, Q(td, 100) - 20
+    unit = Q(1, 10**8)
+    if compact:
+        cold = v0 * 1000 * (1 + alphas[0] * unit * warm) * (1 + alphas[1] * unit * rod)
+    else:
+        cold = v0 * 1000 * (1 + 3 * alphas[0] * unit * warm)
+    cps = 1 + Q(95, 100) * Q(pv, 1000) * d / (e * s)
+    exact = cold * cps
+    if compact:  # the volume at no pressure is rounded to millionths of a microlitre first
+        pair = floor(floor(cold * 10**6) * cps / 10**6), ceil(ceil(cold * 10**6) * cps / 10**6)
+    else:
+        pair = outward(exact)
+    return ["volume %d %d µl" % narrow(pair, exact, 200 * pair[0] // 10**9 + 3)]
+
+
 def line(text):
     words = text.split(" ")
-    if words[0] != "master" or len(words) != 14:
+    figures = {"master": 2, "pipe": 5, "compact": 6}.get(words[0])
+    if figures is None or len(words) != 1 + figures + 11:
         return ["?"]
-    kc, km, n, td, tp, *rest = map(int, words[1:])
+    numbers = [int(w) for w in words[1:]]
+    if words[0] != "master":
+        return volume(numbers[:figures], numbers[figures:], words[0] == "compact")
+    kc, km, n, td, tp, *rest = numbers
     nm, tm = rest[-2:]
     if not fits(10**7, kc, 10**9) or not fits(10**7, km, 10**9):
         return ["denied 1 place 1"]

@@ -1,8 +1,7 @@
-// The program's lines.
+// The program's lines: some figures, and the eleven fields of a record.
 ghost use Prim.Native.Nat.{_+_};
 ghost use mathlib.Core.Path.{_≡_};
-ghost use lib.IntN.{pos};
-ghost use lib.ListN.{length, getD, drop};
+ghost use lib.ListN.{length, take, drop};
 ghost use Rattle.std.specs.Options.{Cases as BySome};
 ghost use Rattle.pass.specs.Readings.{InOrder};
 use pass::readings::Record;
@@ -21,30 +20,16 @@ pub fn numbers(heap: Global, text: &str) -> Result<Vec<i32>, AllocError> {
     Ok(found)
 }
 
-/// A pass against a master meter, as a line gives it.
-#[derive(Clone, Copy, Drop)]
-pub struct MasterLine {
-    pub set_factor: i32,
-    pub master_factor: i32,
-    pub pass: Record,
-}
-
-impl MasterLine {
-    /// Two factors and the eleven fields of the record, and no more.
-    pub fn of(numbers: &[i32]) -> Option<MasterLine>
-        ensures { λ r. ⌜ BySome r (length (now (numbers .entry)) ≡ 13 → ⊥) (λ l. (l .«set_factor» ≡ getD (now (numbers .entry)) 0 (pos 0)) × (l .«master_factor» ≡ getD (now (numbers .entry)) 1 (pos 0)) × InOrder (l .pass) (drop 2 (now (numbers .entry)))) ⌝ }
-    {
-        if numbers.len() != 13 {
-            return None;
-        }
-        let (factors, fields) = numbers.split_at(2);
-        match Record::of(fields) {
-            Some(pass) => Some(MasterLine {
-                set_factor: factors[0],
-                master_factor: factors[1],
-                pass,
-            }),
-            None => None,
-        }
+/// So many figures and then the record of a pass; none where there are not just as many numbers.
+pub fn figures_and_record(numbers: &[i32], figures: usize) -> Option<(&[i32], Record)>
+    ensures { λ r. ⌜ BySome r (length (now (numbers .entry)) ≡ figures + 11 → ⊥) (λ l. (now (l .0) ≡ take figures (now (numbers .entry))) × (length (now (l .0)) ≡ figures) × InOrder (l .1) (drop figures (now (numbers .entry)))) ⌝ }
+{
+    if figures > numbers.len() {
+        return None;
+    }
+    let (front, fields) = numbers.split_at(figures);
+    match Record::of(fields) {
+        Some(pass) => Some((front, pass)),
+        None => None,
     }
 }

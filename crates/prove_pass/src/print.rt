@@ -1,28 +1,30 @@
 // What the program prints.
+use crate::answers::Answer;
 use exact::pair::Pair;
 use pass::denials::Denial;
 use sheet::figures::Sheet;
 use std::io;
 
+/// A pair, lower end first.
 fn pair(rt: &LibcRuntime, name: &str, p: Pair, unit: &str) -> io::Result<()> {
     let low = p.low;
     let high = p.high;
-    println!(rt, "  {name} {low} {high} {unit}")
+    println!(rt, "{name} {low} {high} {unit}")
 }
 
-/// The six pairs of a sheet, lower end first.
-pub fn sheet(rt: &LibcRuntime, s: &Sheet) -> io::Result<()> {
+/// The six pairs of a sheet.
+fn figures(rt: &LibcRuntime, s: Sheet) -> io::Result<()> {
     println!(rt, "sheet")?;
-    pair(rt, "count", s.count, "ten-thousandths of a pulse")?;
-    pair(rt, "meter mass", s.meter_mass, "mg")?;
-    pair(rt, "reference mass", s.reference_mass, "mg")?;
-    pair(rt, "K", s.pulse_factor, "steps of the set factor")?;
-    pair(rt, "MF", s.meter_factor, "steps")?;
-    pair(rt, "F", s.correction, "steps")
+    pair(rt, "  count", s.count, "ten-thousandths of a pulse")?;
+    pair(rt, "  meter mass", s.meter_mass, "mg")?;
+    pair(rt, "  reference mass", s.reference_mass, "mg")?;
+    pair(rt, "  K", s.pulse_factor, "steps of the set factor")?;
+    pair(rt, "  MF", s.meter_factor, "steps")?;
+    pair(rt, "  F", s.correction, "steps")
 }
 
 /// A denial: its number, and what it carries.
-pub fn denied(rt: &LibcRuntime, d: Denial) -> io::Result<()> {
+fn denied(rt: &LibcRuntime, d: Denial) -> io::Result<()> {
     let number = d.number();
     match d {
         Denial::Figure(place) => println!(rt, "denied {number} place {place}"),
@@ -36,5 +38,19 @@ pub fn denied(rt: &LibcRuntime, d: Denial) -> io::Result<()> {
             println!(rt, "denied {number} device {d} field {f}")
         }
         Denial::Value => println!(rt, "denied {number}"),
+    }
+}
+
+/// The answer to a line.
+pub fn answer(rt: &LibcRuntime, a: Answer) -> io::Result<()> {
+    match a {
+        Answer::Unread => println!(rt, "?"),
+        Answer::Denied(d) => denied(rt, d),
+        Answer::Faulted(field) => {
+            let f = field.number();
+            println!(rt, "fault field {f}")
+        }
+        Answer::Volume(p) => pair(rt, "volume", p, "µl"),
+        Answer::Figures(s) => figures(rt, s),
     }
 }

@@ -1,3 +1,4 @@
 pub mod Vessels
 pub mod Walls
 pub mod Provers
+pub mod Worked

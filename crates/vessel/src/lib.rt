@@ -6,3 +6,4 @@ pub mod passes;
 pub mod pipe;
 pub mod provers;
 pub mod vessel;
+pub mod worked;

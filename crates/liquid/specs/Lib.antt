@@ -1,3 +1,5 @@
 pub mod Questions
 pub mod Liquids
 pub mod Linear
+pub mod Exponential
+pub mod Rounded

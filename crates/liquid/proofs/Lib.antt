@@ -1,3 +1,4 @@
 pub mod Readings
 pub mod Linears
 pub mod Openings
+pub mod Thermals

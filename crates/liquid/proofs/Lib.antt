@@ -2,3 +2,4 @@ pub mod Readings
 pub mod Linears
 pub mod Openings
 pub mod Thermals
+pub mod Elastics

@@ -3,3 +3,4 @@ pub mod Linears
 pub mod Openings
 pub mod Thermals
 pub mod Elastics
+pub mod Exponentials

@@ -7,7 +7,8 @@ use mathlib.Core.Logic.{_⊎_, inl, inr}
 use native.Mathlib.Omega.{arith}
 use native.Mathlib.Nat.{mul-pos, mul-le-mul, mul-le-mul-left, mul-le-mul-right, le-of-mul-le-mul-right}
 use lib.Dec.{lit<, leb}
-use lib.IntN.{ℤ, pos, _+ℤ_}
+use lib.IntN.{ℤ, pos, _+ℤ_, _-ℤ_}
+use Rattle.std.proofs.shelf.Signed.{ints}
 use Rattle.std.proofs.shelf.Tests.{cases-lt}
 use Rattle.std.proofs.shelf.Ways.{tells}
 use Rattle.exact.specs.Fractions.{Fraction, nat, add, neg, sub, mul, div}
@@ -28,9 +29,9 @@ use Rattle.liquid.proofs.Openings.{squared-worth, square-least, square-most}
 
 -- the exponent's worth
 exponent-n : (n b : ℕ) → (((0 * (100000000 * 100) + (21592 * n + 0 * 1000) * 100000) * (1 * b) + 870960 * 10000 * (100000 * (100000000 * 100))) * (10 * 100 * b) + (42092 * n + 0 * 1000) * 10000 * (100000 * (100000000 * 100) * (1 * b))) * (10000000000 * b)
-        + 16229592000 * b * (100000 * (100000000 * 100) * (1 * b) * (10 * 100 * b))
+    + 16229592000 * b * (100000 * (100000000 * 100) * (1 * b) * (10 * 100 * b))
     ≡ (10000000000 * (8288680000 + 420920 * n) + 21592 * n * b) * (100000 * (100000000 * 100) * (1 * b) * (10 * 100 * b))
-        + (((162080 * (100000000 * 100) + (21592 * 1000 + 0 * n) * 100000) * (1 * b) + 0 * 10000 * (100000 * (100000000 * 100))) * (10 * 100 * b) + (42092 * 1000 + 0 * n) * 10000 * (100000 * (100000000 * 100) * (1 * b))) * (10000000000 * b)
+    + (((162080 * (100000000 * 100) + (21592 * 1000 + 0 * n) * 100000) * (1 * b) + 0 * 10000 * (100000 * (100000000 * 100))) * (10 * 100 * b) + (42092 * 1000 + 0 * n) * 10000 * (100000 * (100000000 * 100) * (1 * b))) * (10000000000 * b)
 exponent-n n b = omega arith
 
 exponent-worth : (f : Figures) (t : ℤ) (n b : ℕ) → 0 < b → Worth (density-squared f) b 0 10000 → t +ℤ pos 1000 ≡ pos n
@@ -129,7 +130,7 @@ pub record Elastic (units : ℕ) (x : Fraction) : Type 0 where
   pub most : units ≤ 1001000000000
 
 -- the sums for an exponent of at most 1.4
-sums-most : (size even odd : ℕ) → size ≤ 1400000000000 → Sized size even odd → even + odd ≤ 4360000000000
+pub sums-most : (size even odd : ℕ) → size ≤ 1400000000000 → Sized size even odd → even + odd ≤ 4360000000000
 sums-most size even odd h s =
     let a : size * size ≤ 1400000000000 * 1400000000000 = mul-le-mul h h in
     let b = s .most in
@@ -227,11 +228,11 @@ module _ (l : Exponential) (t : ℤ) (n : ℕ) (warm : n ≤ 6000) (at : t +ℤ 
       let m = below-most (over-density l n) W U b n (square-most (l .density) (l .dense .1)) refl is (o .1) in
       (omega arith, record { top = Z; bottom = 10000000000 * b; worth = below-worth n b U W Z is top (exponent-at l t n at); least = s .0; most = s .1 })
 
-above-units : (l : Exponential) (n p : ℕ) → beside-density n ≤ over-density l n → elastic-units l n p ≡ elastic-rising (over-density l n - beside-density n) p
+pub above-units : (l : Exponential) (n p : ℕ) → beside-density n ≤ over-density l n → elastic-units l n p ≡ elastic-rising (over-density l n - beside-density n) p
 unfolding elastic-units
 above-units l n p h = let s : leb (beside-density n) (over-density l n) ≡ true = grind (arith, tells) in rw s refl
 
-below-units : (l : Exponential) (n p : ℕ) → over-density l n < beside-density n → elastic-units l n p ≡ elastic-falling (beside-density n - over-density l n) p
+pub below-units : (l : Exponential) (n p : ℕ) → over-density l n < beside-density n → elastic-units l n p ≡ elastic-falling (beside-density n - over-density l n) p
 unfolding elastic-units
 below-units l n p h = let s : leb (beside-density n) (over-density l n) ≡ false = grind (arith, tells) in rw s refl
 
@@ -240,3 +241,23 @@ elastic-is l t q n p k i at j = elim (cases-lt (over-density l n) (beside-densit
   | inl h ↦ (let s = below-exponent l t n k at h in subst (λ (u : ℕ). Elastic u (elastic (figures l) t q)) (sym (below-units l n p h)) (elastic-falls (figures l) t q p (beside-density n - over-density l n) i j (s .0) (s .1)))
   | inr h ↦ (let s = above-exponent l t n k at h in subst (λ (u : ℕ). Elastic u (elastic (figures l) t q)) (sym (above-units l n p h)) (elastic-rises (figures l) t q p (over-density l n - beside-density n) i j (s .0) (s .1)))
 ]
+
+-- what the program asks of them
+pub above-small : (l : Exponential) (n : ℕ) → n ≤ 6000 → beside-density n ≤ over-density l n → over-density l n - beside-density n ≤ 1400000000000
+above-small l n h k = above-exponent l (pos n -ℤ pos 1000) n h (omega (arith, ints)) k .0
+
+pub below-small : (l : Exponential) (n : ℕ) → n ≤ 6000 → over-density l n < beside-density n → beside-density n - over-density l n ≤ 1050000000000
+below-small l n h k = below-exponent l (pos n -ℤ pos 1000) n h (omega (arith, ints)) k .0
+
+pub elastic-range : (l : Exponential) (n p : ℕ) → n ≤ 6000 → p ≤ 10000 → (956000000000 ≤ elastic-units l n p) × (elastic-units l n p ≤ 1001000000000)
+elastic-range l n p h k =
+    let t = elastic-is l (pos n -ℤ pos 1000) (pos p) n p h k (omega (arith, ints)) refl in
+    (t .least, t .most)
+
+-- the products of the sums with a pressure
+pub products-most : (size even odd p : ℕ) → size ≤ 1050000000000 → p ≤ 10000 → even ≡ terms size 9 .even → odd ≡ terms size 9 .odd → (even * p ≤ 43600000000000000) × (odd * p ≤ 43600000000000000)
+products-most size even odd p h i a b =
+    let m = sums-most size (terms size 9 .even) (terms size 9 .odd) (omega arith) (sized size (omega arith)) in
+    let e : even * p ≤ 4360000000000 * 10000 = mul-le-mul (let k : even ≤ 4360000000000 = omega arith in k) i in
+    let o : odd * p ≤ 4360000000000 * 10000 = mul-le-mul (let k : odd ≤ 4360000000000 = omega arith in k) i in
+    (omega arith, omega arith)

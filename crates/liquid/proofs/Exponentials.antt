@@ -42,7 +42,7 @@ factor-positive E G F H p =
     let g = p .g-least in
     mul-pos (let a : 0 < F = omega arith in a) (omega arith)
 
-pub factor-most : (E G F H : ℕ) → Parts E G F H → 100000000 * E * H ≤ 119100000 * (F * G)
+factor-most : (E G F H : ℕ) → Parts E G F H → 100000000 * E * H ≤ 119100000 * (F * G)
 factor-most E G F H p =
     let a : E * H ≤ 1053000000000 * 1001000000000 = mul-le-mul (p .e-most) (p .h-most) in
     let b : 926000000000 * 956000000000 ≤ F * G = mul-le-mul (p .f-least) (p .g-least) in
@@ -53,6 +53,19 @@ factor-least E G F H p =
     let a : 926000000000 * 956000000000 ≤ E * H = mul-le-mul (p .e-least) (p .h-least) in
     let b : F * G ≤ 1053000000000 * 1001000000000 = mul-le-mul (p .f-most) (p .g-most) in
     omega arith
+
+pub parts-at : {E G F H : ℕ} → (926000000000 ≤ E) × (E ≤ 1053000000000) → (956000000000 ≤ G) × (G ≤ 1001000000000) → (926000000000 ≤ F) × (F ≤ 1053000000000) → (956000000000 ≤ H) × (H ≤ 1001000000000) → Parts E G F H
+parts-at e g f h = record { e-least = e .0; e-most = e .1; g-least = g .0; g-most = g .1; f-least = f .0; f-most = f .1; h-least = h .0; h-most = h .1 }
+
+pub product-most : (E G F H : ℕ) → Parts E G F H → 100000000 * E * H ≤ 105405300000000000000000000000000
+product-most E G F H p =
+    let a : E * H ≤ 1053000000000 * 1001000000000 = mul-le-mul (p .e-most) (p .h-most) in
+    omega arith
+
+pub steps-range : (E G F H : ℕ) → Parts E G F H → (83900000 ≤ (100000000 * E * H) / (F * G)) × ((100000000 * E * H) / (F * G) ≤ 119100000)
+steps-range E G F H p =
+    let o = factor-positive E G F H p in
+    (floor-least (100000000 * E * H) (F * G) 83900000 o (factor-least E G F H p), floor-most (100000000 * E * H) (F * G) 119100000 o (factor-most E G F H p))
 
 -- one step below is under the factor, whatever the parts are within their distances
 low-n : (E G F H e h k : ℕ) → Parts E G F H → k ≤ 120000000 → e + 400 ≡ E → h + 5 ≡ H → (k + 1) * (F * G) ≤ 100000000 * E * H → k * (F + 400) * (G + 5) ≤ 100000000 * e * h
@@ -117,7 +130,7 @@ module _ (x y z w : Fraction) (E G F H : ℕ) (p : Parts E G F H) (nx : Near 400
       let ei : (E - 400) + 400 ≡ E = omega (arith, p .e-least) in
       let hi : (H - 5) + 5 ≡ H = omega (arith, p .h-least) in
       let c = chain k 100000000 (E - 400) (H - 5) (F + 400) (G + 5) (nx .bottom) (ny .bottom) (nz .bottom) (nw .bottom) (1000000000000 * nz .top) (1000000000000 * ny .top) (1000000000000 * nx .top) (1000000000000 * nw .top)
-          (low-n E G F H (E - 400) (H - 5) k p m ei hi l) (over 400 F (nz .top) (nz .bottom) (nz .most)) (over 5 G (ny .top) (ny .bottom) (ny .most)) (under 400 E (nx .top) (nx .bottom) (E - 400) ei (nx .least)) (under 5 H (nw .top) (nw .bottom) (H - 5) hi (nw .least)) in
+      (low-n E G F H (E - 400) (H - 5) k p m ei hi l) (over 400 F (nz .top) (nz .bottom) (nz .most)) (over 5 G (ny .top) (ny .bottom) (ny .most)) (under 400 E (nx .top) (nx .bottom) (E - 400) ei (nx .least)) (under 5 H (nw .top) (nw .bottom) (H - 5) hi (nw .least)) in
       worth-le (parts-worth 100000000 k (lit< tt)) ratio-worth (go k (nx .top) (nx .bottom) (ny .top) (ny .bottom) (nz .top) (nz .bottom) (nw .top) (nw .bottom) c)
     where
       go : (k a A b B c C d D : ℕ) → k * (A * D) * (1000000000000 * c * (1000000000000 * b)) ≤ 100000000 * (B * C) * (1000000000000 * a * (1000000000000 * d)) → k * (A * b * (c * D)) + 0 * 100000000 ≤ a * B * (C * d) * 100000000 + 0 * (A * b * (c * D))
@@ -128,7 +141,7 @@ module _ (x y z w : Fraction) (E G F H : ℕ) (p : Parts E G F H) (nx : Near 400
       let fi : (F - 400) + 400 ≡ F = omega (arith, p .f-least) in
       let gi : (G - 5) + 5 ≡ G = omega (arith, p .g-least) in
       let c = chain 100000000 (k + 2) (F - 400) (G - 5) (E + 400) (H + 5) (nz .bottom) (nw .bottom) (nx .bottom) (ny .bottom) (1000000000000 * nx .top) (1000000000000 * nw .top) (1000000000000 * nz .top) (1000000000000 * ny .top)
-          (high-n E G F H (F - 400) (G - 5) k p m fi gi l) (over 400 E (nx .top) (nx .bottom) (nx .most)) (over 5 H (nw .top) (nw .bottom) (nw .most)) (under 400 F (nz .top) (nz .bottom) (F - 400) fi (nz .least)) (under 5 G (ny .top) (ny .bottom) (G - 5) gi (ny .least)) in
+      (high-n E G F H (F - 400) (G - 5) k p m fi gi l) (over 400 E (nx .top) (nx .bottom) (nx .most)) (over 5 H (nw .top) (nw .bottom) (nw .most)) (under 400 F (nz .top) (nz .bottom) (F - 400) fi (nz .least)) (under 5 G (ny .top) (ny .bottom) (G - 5) gi (ny .least)) in
       worth-le ratio-worth (parts-worth 100000000 (k + 2) (lit< tt)) (go (k + 2) (nx .top) (nx .bottom) (ny .top) (ny .bottom) (nz .top) (nz .bottom) (nw .top) (nw .bottom) c)
     where
       go : (k a A b B c C d D : ℕ) → 100000000 * (C * B) * (1000000000000 * a * (1000000000000 * d)) ≤ k * (D * A) * (1000000000000 * c * (1000000000000 * b)) → a * B * (C * d) * 100000000 + 0 * (A * b * (c * D)) ≤ k * (A * b * (c * D)) + 0 * 100000000
@@ -141,8 +154,9 @@ module _ (x y z w : Fraction) (E G F H : ℕ) (p : Parts E G F H) (nx : Near 400
       let f = floor-under (100000000 * E * H) (F * G) o in
       let u : k * (F * G) ≤ 100000000 * E * H = rw i (f .0) in
       let v : 100000000 * E * H ≤ k * (F * G) + F * G = rw i (omega (arith, f .1)) in
-      let l : 83900000 ≤ k = rw i (floor-least (100000000 * E * H) (F * G) 83900000 o (factor-least E G F H p)) in
-      let m : k ≤ 119100000 = rw i (floor-most (100000000 * E * H) (F * G) 119100000 o (factor-most E G F H p)) in
+      let r = steps-range E G F H p in
+      let l : 83900000 ≤ k = rw i (r .0) in
+      let m : k ≤ 119100000 = rw i (r .1) in
       let s : (k - 1) + 1 ≡ k = omega arith in
       record {
         holds = record { least = ratio-least (k - 1) (omega arith) (rw s u); most = ratio-most k (omega arith) v };
@@ -150,16 +164,6 @@ module _ (x y z w : Fraction) (E G F H : ℕ) (p : Parts E G F H) (nx : Near 400
         most = omega (arith, ints);
         narrow = omega (arith, ints);
       }
-
--- the parts of a question that is taken
-pub parts-of : (l : Exponential) (q : Question) → Taken q
-    → Parts (thermal-units l (raised (q .«wall_temperature»))) (elastic-units l (raised (q .«wall_temperature»)) (natAbs (q .«vessel_pressure»))) (thermal-units l (raised (q .«densitometer_temperature»))) (elastic-units l (raised (q .«densitometer_temperature»)) (natAbs (q .«densitometer_pressure»)))
-parts-of l q k =
-    let e = thermal-is l (q .«wall_temperature») (raised (q .«wall_temperature»)) (k .wall-most) (k .wall-is) in
-    let g = elastic-is l (q .«wall_temperature») (q .«vessel_pressure») (raised (q .«wall_temperature»)) (natAbs (q .«vessel_pressure»)) (k .wall-most) (k .vessel-most) (k .wall-is) (k .vessel-is) in
-    let f = thermal-is l (q .«densitometer_temperature») (raised (q .«densitometer_temperature»)) (k .temperature-most) (k .temperature-is) in
-    let h = elastic-is l (q .«densitometer_temperature») (q .«densitometer_pressure») (raised (q .«densitometer_temperature»)) (natAbs (q .«densitometer_pressure»)) (k .temperature-most) (k .pressure-most) (k .temperature-is) (k .pressure-is) in
-    record { e-least = e .least; e-most = e .most; g-least = g .least; g-most = g .most; f-least = f .least; f-most = f .most; h-least = h .least; h-most = h .most }
 
 pub exponential-carries : (l : Exponential) (q : Question) → takes q ≡ true → Carries (exponential-factor (figures l) q) (exponential-answer l q)
 unfolding exponential-factor density-ratio carried
@@ -171,4 +175,4 @@ exponential-carries l q h =
     let j = elastic-is l (q .«densitometer_temperature») (q .«densitometer_pressure») (raised (q .«densitometer_temperature»)) (natAbs (q .«densitometer_pressure»)) (k .temperature-most) (k .pressure-most) (k .temperature-is) (k .pressure-is) in
     ratio-carries (thermal (figures l) (q .«wall_temperature»)) (elastic (figures l) (q .«wall_temperature») (q .«vessel_pressure»)) (thermal (figures l) (q .«densitometer_temperature»)) (elastic (figures l) (q .«densitometer_temperature») (q .«densitometer_pressure»))
     (thermal-units l (raised (q .«wall_temperature»))) (elastic-units l (raised (q .«wall_temperature»)) (natAbs (q .«vessel_pressure»))) (thermal-units l (raised (q .«densitometer_temperature»))) (elastic-units l (raised (q .«densitometer_temperature»)) (natAbs (q .«densitometer_pressure»)))
-    (parts-of l q k) (e .near) (g .near) (f .near) (j .near) (exponential-steps l q) refl
+    (record { e-least = e .least; e-most = e .most; g-least = g .least; g-most = g .most; f-least = f .least; f-most = f .most; h-least = j .least; h-most = j .most }) (e .near) (g .near) (f .near) (j .near) (exponential-steps l q) refl

@@ -7,7 +7,8 @@ use mathlib.Core.Logic.{_⊎_, inl, inr}
 use native.Mathlib.Omega.{arith}
 use native.Mathlib.Nat.{mul-pos, mul-le-mul, mul-le-mul-left, mul-le-mul-right, le-of-mul-le-mul-right}
 use lib.Dec.{lit<, leb}
-use lib.IntN.{ℤ, pos, _+ℤ_}
+use lib.IntN.{ℤ, pos, _+ℤ_, _-ℤ_}
+use Rattle.std.proofs.shelf.Signed.{ints}
 use Rattle.std.proofs.shelf.Tests.{cases-lt}
 use Rattle.std.proofs.shelf.Ways.{tells}
 use Rattle.exact.specs.Fractions.{Fraction, nat, add, neg, sub, mul}
@@ -232,11 +233,11 @@ thermal-cold l t n h i =
     thermal-rising (neg (mul (expanded (figures l) t) (add (nat 1) (mul (parts 10 (pos 8)) (expanded (figures l) t))))) (straight l n - bent (straight l n)) (omega arith)
     (record { top = slope l * away n * (10 * (10000000000 * (l .density * l .density)) - 8 * (slope l * away n)); bottom = 10000000000 * (l .density * l .density) * (10 * (10000000000 * (l .density * l .density))); worth = bend-cold (expanded (figures l) t) (slope l * away n) (10000000000 * (l .density * l .density)) (10 * (10000000000 * (l .density * l .density)) - 8 * (slope l * away n)) is w; least = s .0; most = s .1 })
 
-warm-units : (l : Exponential) (n : ℕ) → 2500 ≤ n → thermal-units l n ≡ falling (straight l n + bent (straight l n))
+pub warm-units : (l : Exponential) (n : ℕ) → 2500 ≤ n → thermal-units l n ≡ falling (straight l n + bent (straight l n))
 unfolding thermal-units
 warm-units l n h = let s : leb 2500 n ≡ true = grind (arith, tells) in rw s refl
 
-cold-units : (l : Exponential) (n : ℕ) → n < 2500 → thermal-units l n ≡ rising (straight l n - bent (straight l n))
+pub cold-units : (l : Exponential) (n : ℕ) → n < 2500 → thermal-units l n ≡ rising (straight l n - bent (straight l n))
 unfolding thermal-units
 cold-units l n h = let s : leb 2500 n ≡ false = grind (arith, tells) in rw s refl
 
@@ -245,3 +246,14 @@ thermal-is l t n k i = elim (cases-lt n 2500) [
   | inl h ↦ subst (λ (u : ℕ). Thermal u (thermal (figures l) t)) (sym (cold-units l n h)) (thermal-cold l t n h i)
   | inr h ↦ subst (λ (u : ℕ). Thermal u (thermal (figures l) t)) (sym (warm-units l n h)) (thermal-warm l t n h k i)
 ]
+
+-- what the program asks of them
+pub straight-small : (l : Exponential) (n : ℕ) → n ≤ 6000 → straight l n ≤ 70000000000
+straight-small l n h = let b = bent-is l n .straight-most in omega arith
+
+pub bent-less : (y : ℕ) → y ≤ 70000000000 → bent y ≤ y
+unfolding bent
+bent-less y h = let g = floor-under (4 * y * y) 5000000000000 (lit< tt) in cold-less y (bent y) h (g .0)
+
+pub thermal-range : (l : Exponential) (n : ℕ) → n ≤ 6000 → (926000000000 ≤ thermal-units l n) × (thermal-units l n ≤ 1053000000000)
+thermal-range l n h = let t = thermal-is l (pos n -ℤ pos 1000) n h (omega (arith, ints)) in (t .least, t .most)

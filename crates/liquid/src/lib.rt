@@ -2,6 +2,7 @@
 pub mod carry;
 pub mod conditions;
 pub mod exponential;
+pub mod exponential_carry;
 pub mod exponential_open;
 pub mod linear;
 pub mod linear_carry;

@@ -6,7 +6,7 @@ use lib.Dec.{leb}
 use lib.IntN.{ℤ, pos, negsuc, negℤ}
 use Rattle.std.specs.declared.result.Result.{Result}
 use Rattle.std.specs.declared.result.Result.the-variants.{Ok, Err}
-use Rattle.exact.specs.Fractions.{Fraction, nat, add, neg, sub, mul, div}
+use Rattle.exact.specs.Fractions.{Fraction, Le, nat, add, neg, sub, mul, div}
 use Rattle.exact.specs.Pairs.{parts}
 use Rattle.expsum.specs.Series.{e}
 use Rattle.pass.specs.Ranges.{between}
@@ -91,3 +91,13 @@ figures l = record { density = pos (l .density); k0 = pos (l .k0); k1 = pos (l .
 abbrev pub ExponentialOpened : Figures → Result Exponential Denial → Type 0
 ExponentialOpened f (Ok l) = (exponential-place f ≡ 0) × (f .density ≡ pos (l .density)) × (f .k0 ≡ pos (l .k0)) × (f .k1 ≡ pos (l .k1)) × (f .k2 ≡ negℤ (pos (l .«minus_k2»)))
 ExponentialOpened f (Err d) = (0 < exponential-place f) × (d ≡ Figure (exponential-place f))
+
+-- The worked figures, of a gasoline of 715.40 kg/m³ without pressure: at 25 °C its density is between 0.98704 and 0.98705 of
+-- that at 15 °C, and at 22 °C between 708.92 and 708.93 kg/m³.
+abbrev pub gasoline : Figures
+gasoline = record { density = pos 71540; k0 = pos 3464228; k1 = pos 4388; k2 = pos 0 }
+
+abbrev pub ExponentialExample : Type 0
+ExponentialExample =
+    Le (parts 100000 (pos 98704)) (density-ratio gasoline (pos 2500) (pos 0)) × Le (density-ratio gasoline (pos 2500) (pos 0)) (parts 100000 (pos 98705))
+    × Le (parts 100 (pos 70892)) (mul (density-at-15 gasoline) (density-ratio gasoline (pos 2200) (pos 0))) × Le (mul (density-at-15 gasoline) (density-ratio gasoline (pos 2200) (pos 0))) (parts 100 (pos 70893))

@@ -2,7 +2,7 @@
 // Temperatures here are in 0.01 °C above −10 °C, so that 15 °C is 2,500; pressures are in kPa.
 ghost use Prim.Native.Nat.{_+_, _*_, _≤_, _<_};
 ghost use mathlib.Core.Path.{_≡_};
-ghost use Rattle.liquid.specs.Exponential.{figures, exponential-factor};
+ghost use Rattle.liquid.specs.Exponential.{figures, exponential-factor, ExponentialExample};
 ghost use Rattle.liquid.specs.Rounded.{rising as rising-of, falling as falling-of, slope as slope-of, straight as straight-of, bent as bent-of, thermal-units, over-density, beside-density, elastic-rising, elastic-falling, elastic-units, carried as carried-of, exponential-answer};
 use crate::carry::Liquid;
 use crate::conditions::Conditions;
@@ -161,4 +161,11 @@ pub impl Liquid for Exponential as ExponentialLiquid {
             high: steps + 2,
         })
     }
+}
+
+/// The worked figures of the exponential liquid hold of its formula.
+pub fn exponential_example() -> bool
+    ensures { λ _. ⌜ ExponentialExample ⌝ }
+{
+    true
 }

@@ -25,15 +25,12 @@ pub add-result : need.add-result
 add-result c = record { fits = omega (arith, square-most (c .args .density) (c .pre .dense .1), below-most (c .args .density) (c .args .minus-k2) (c .pre .dense .1) (c .pre .ranged .1 .1)) }
 
 pub returns-then-square-below : need.returns-then-square-below
-returns-then-square-below c = record {
-  value = both-tested (c .args .density) (c .args .k0) (c .args .k1) (c .args .minus-k2) (omega (arith, c .pre .dense .0)) (c .if-square-below .taken);
-  least = λ e. c .if-square-below .taken;
-  most = λ e. grind (arith, tells);
-}
+returns-then-square-below c =
+    let tested = both-tested (c .args .density) (c .args .k0) (c .args .k1) (c .args .minus-k2) (omega (arith, c .pre .dense .0)) (c .if-square-below .taken) in
+    record { value = cc; least = λ e. c .if-square-below .taken; most = λ e. grind (arith, tells) }
 
 pub returns-else-square-below : need.returns-else-square-below
-returns-else-square-below c = record {
-  value = first-tested (c .args .density) (c .args .k0) (c .args .k1) (c .args .minus-k2) (omega (arith, c .pre .dense .0)) (c .if-square-below .left);
-  least = λ e. grind (arith, tells);
-  most = λ e. let l = c .if-square-below .left in grind (arith, tells);
-}
+returns-else-square-below c =
+    let tested = first-tested (c .args .density) (c .args .k0) (c .args .k1) (c .args .minus-k2) (omega (arith, c .pre .dense .0)) (c .if-square-below .left) in
+    let l = c .if-square-below .left in
+    record { value = cc; least = λ e. grind (arith, tells); most = λ e. grind (arith, tells) }

@@ -1,12 +1,8 @@
-use mathlib.Core.Path.{_≡_, refl, sym, ap}
 use mathlib.Core.Bool.{true, false}
 use native.Mathlib.Omega.{arith}
-use Prim.Native.Nat.{ℕ}
 use mir.Syntax.{w32}
 use mir.Val.{SFits}
 use Rattle.std.proofs.shelf.Signed.{toZ-ofZ}
-use Rattle.pass.specs.declared.denials.Denial.{Denial}
-use Rattle.pass.specs.declared.denials.Denial.the-variants.{Figure}
 use Rattle.liquid.proofs.Openings.{place-is}
 use Rattle.liquid.proofs.exponential.Exponential.open.Needs as need
 
@@ -22,7 +18,7 @@ returns-then-not-expansive c =
     let k2 = simp toZ-ofZ at (c .in-Some-downward .ensures tt) in
     let p = place-is (c .args .density) (c .args .k0) (c .args .k1) (c .args .k2) (c .in-Some .density) (c .in-Some-in-range .k0) (c .in-Some-in-range-2 .k1) (c .in-Some-downward .minus-k2) false
     (d .0) (k0 .0) (k1 .0) (k2 .0) (d .1) (k0 .1) (k1 .1) (k2 .1) (c .if-not-expansive .ensures tt .value) in
-    (omega (arith, p), ap (λ (n : ℕ). Figure n) (sym p))
+    (omega (arith, p), cc)
 
 pub returns : need.returns
 returns c =

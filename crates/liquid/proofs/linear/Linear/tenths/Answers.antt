@@ -1,4 +1,3 @@
-use mathlib.Core.Path.{refl}
 use native.Mathlib.Omega.{arith}
 use Rattle.liquid.proofs.Linears.{parts-most}
 use Rattle.liquid.proofs.linear.Linear.tenths.Needs as need
@@ -16,4 +15,4 @@ returns c =
     let a = c .args .at .now in
     let less = parts-most (l .expansion) (l .compressibility) (a .«wall_temperature») (a .«densitometer_pressure») (l .expanding) (l .compressible) (a .temperate .0) (a .pressed .1) in
     let more = parts-most (l .expansion) (l .compressibility) (a .«densitometer_temperature») (a .«vessel_pressure») (l .expanding) (l .compressible) (a .temperate .1) (a .pressed .0) in
-    record { value = refl; range = (omega arith, omega arith) }
+    record { value = omega arith; range = (omega arith, omega arith) }

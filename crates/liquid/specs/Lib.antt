@@ -1,5 +1,3 @@
 pub mod Questions
 pub mod Liquids
 pub mod Linear
-pub mod Exponential
-pub mod Rounded

@@ -1,11 +1,11 @@
 -- How large the terms are: each is at most half of the one before from the third on, so that the sum is bounded by its first terms.
-use Prim.Native.Nat.{ℕ, zero, suc, _+_, _*_, _-_, _/_, _<_, _≤_}
+use Prim.Native.Nat.{ℕ, zero, suc, _+_, _*_, _<_, _≤_}
 use mathlib.Core.Path.{_≡_}
 use native.Mathlib.Omega.{arith}
 use native.Mathlib.Nat.{mul-le-mul, mul-le-mul-left}
 use native.Mathlib.Numerals.{add-one}
 use Rattle.exact.proofs.Quotients.{floor-under}
-use Rattle.expsum.specs.Terms.{next-term, Terms, first-terms, more-terms, terms}
+use Rattle.expsum.specs.Terms.{next-term, Terms, more-terms, terms}
 
 -- a rounded term against the exact product
 pub next-under : (size k t : ℕ) → 0 < k → (next-term size k t * (k * 1000000000000) ≤ t * size) × (t * size ≤ next-term size k t * (k * 1000000000000) + k * 1000000000000)

@@ -1,10 +1,10 @@
 -- Whole units of 10⁻¹² near an exact number: by how many units they may differ, through products, quotients and sums.
-use Prim.Native.Nat.{ℕ, _+_, _*_, _-_, _/_, _<_, _≤_}
-use mathlib.Core.Path.{_≡_, sym, ap, subst}
+use Prim.Native.Nat.{ℕ, _+_, _*_, _<_, _≤_}
+use mathlib.Core.Path.{_≡_}
 use native.Mathlib.Omega.{arith}
-use native.Mathlib.Nat.{mul-pos, mul-le-mul-left, mul-le-mul-right, le-of-mul-le-mul-right}
+use native.Mathlib.Nat.{mul-pos, mul-le-mul-left, mul-le-mul-right}
 use Rattle.exact.specs.Fractions.{Fraction, Same, nat, add, neg, mul, div}
-use Rattle.exact.proofs.Worth.{Worth, worth-nat, worth-add, worth-neg, worth-mul, worth-div, worth-of, worth-itself}
+use Rattle.exact.proofs.Worth.{Worth, worth-nat, worth-add, worth-mul, worth-div, worth-of}
 
 -- the worth of one form of a number is that of another
 pub worth-same-of : {x y : Fraction} {p m b : ℕ} → Same x y → Worth x p m b → Worth y p m b
@@ -72,11 +72,6 @@ near-step {d} {δ} {t} {a} {y} {x} f k r o u v n h i = record {
   where
     go : (p q b c : ℕ) → (p * q + 0 * 0) * 1 * (b * c * k) + 0 * (b * c * k) ≡ p * q * (b * c * k) + (p * 0 + 0 * q) * 1 * (b * c * k)
     go p q b c = omega arith
-
-pub near-wider : {d f a : ℕ} {x : Fraction} → d ≤ f → Near d a x → Near f a x
-near-wider {d} {f} {a} {x} l n =
-    let w : d * n .bottom ≤ f * n .bottom = mul-le-mul-right (n .bottom) l in
-    record { top = n .top; bottom = n .bottom; worth = n .worth; least = omega (arith, n .least); most = omega (arith, n .most) }
 
 pub close-wider : {d f p m : ℕ} {x : Fraction} → d ≤ f → Close d p m x → Close f p m x
 close-wider {d} {f} {p} {m} {x} l n =

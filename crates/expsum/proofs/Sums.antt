@@ -1,15 +1,14 @@
 -- The sum of the terms in whole units is near the exact sum.
-use Prim.Native.Nat.{ℕ, zero, suc, _+_, _*_, _-_, _/_, _<_, _≤_}
-use mathlib.Core.Path.{_≡_, refl, sym, ap, subst}
+use Prim.Native.Nat.{ℕ, zero, suc, _+_, _*_, _<_, _≤_}
+use mathlib.Core.Path.{_≡_, refl, sym, subst}
 use native.Mathlib.Omega.{arith}
 use native.Mathlib.Nat.{mul-pos, zero-lt-suc, zero-add}
 use lib.Dec.{lit<}
 use Rattle.exact.specs.Fractions.{Fraction, Same, nat, add, neg, mul, div}
-use Rattle.exact.proofs.Worth.{Worth, worth-itself, worth-nat, worth-neg, worth-mul, worth-div, worth-same}
-use Rattle.exact.proofs.Order.{same-sym}
+use Rattle.exact.proofs.Worth.{worth-itself, worth-nat, worth-neg, worth-mul, worth-div, worth-same}
 use Rattle.expsum.specs.Series.{power, factorial, term, series, e}
 use Rattle.expsum.specs.Terms.{next-term, Terms, first-terms, more-terms, terms}
-use Rattle.expsum.proofs.Near.{Near, Close, near-same, close-same, near-step, near-wider, close-wider, near-close, close-more, close-less}
+use Rattle.expsum.proofs.Near.{Near, Close, near-same, close-same, near-step, close-wider, near-close, close-more, close-less}
 use Rattle.expsum.proofs.Bounds.{next-under, halved, last-most}
 
 factorial-positive : (k : ℕ) → 0 < factorial k

@@ -1,5 +1,5 @@
 -- The linear liquid's factor in tenths of a step.
-use Prim.Native.Nat.{ℕ, _+_, _-_, _*_, _<_, _≤_}
+use Prim.Native.Nat.{ℕ, _+_, _*_, _≤_}
 use mathlib.Core.Path.{_≡_}
 use mathlib.Core.Bool.{true}
 use native.Mathlib.Omega.{arith}
@@ -7,7 +7,7 @@ use native.Mathlib.Nat.{mul-le-mul}
 use lib.Dec.{lit<}
 use lib.IntN.{ℤ, pos, natAbs, _+ℤ_}
 use Rattle.std.proofs.shelf.Signed.{ints}
-use Rattle.exact.specs.Fractions.{Fraction, Same, nat, add, mul, div}
+use Rattle.exact.specs.Fractions.{Fraction, Same, nat, mul, div}
 use Rattle.exact.specs.Pairs.{floor, ceiling}
 use Rattle.exact.proofs.Worth.{Worth, worth-nat, worth-add, worth-mul, worth-div, worth-of, worth-same}
 use Rattle.exact.proofs.Pairs.{holds-parts, holds-same, holds-quotient}
@@ -16,7 +16,7 @@ use Rattle.liquid.specs.Questions.{takes, raised}
 use Rattle.liquid.specs.Liquids.{Carries}
 use Rattle.liquid.specs.Linear.{linear-factor, tenths}
 use Rattle.liquid.specs.declared.question.Question.{Question}
-use Rattle.liquid.proofs.Readings.{Taken, taken, parts-worth, degrees-worth, megapascals-worth, worth-sub}
+use Rattle.liquid.proofs.Readings.{taken, parts-worth, degrees-worth, megapascals-worth, worth-sub}
 
 -- the factor is (more − less)/10⁹
 factor-n : (β γ tp pp tv pv : ℕ) → ((1 * (1000000 * 100) + (β * (tp + 1000) + 0 * (1000 + tv)) * 1) * (1000000 * 1000) + (γ * (pv + 0) + 0 * (0 + pp)) * (1 * (1000000 * 100))) * 1000000000

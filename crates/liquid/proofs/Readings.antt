@@ -1,17 +1,15 @@
 -- What a question that is taken gives: temperatures and pressures as natural numbers, and what they are worth.
-use Prim.Native.Nat.{ℕ, _+_, _-_, _*_, _<_, _≤_}
+use Prim.Native.Nat.{ℕ, _+_, _*_, _<_, _≤_}
 use mathlib.Core.Path.{_≡_, refl}
 use mathlib.Core.Bool.{Bool, true, false, _&&_}
 use native.Mathlib.Omega.{arith}
-use native.Mathlib.Nat.{mul-pos}
 use lib.Dec.{lit<}
 use lib.IntN.{ℤ, pos, natAbs, _+ℤ_}
-use lib.Signed.{leZ}
 use Rattle.std.proofs.shelf.Signed.{ints}
-use Rattle.exact.specs.Fractions.{Fraction, nat, whole, sub, add, neg, div}
+use Rattle.exact.specs.Fractions.{Fraction, sub}
 use Rattle.exact.specs.Pairs.{parts}
 use Rattle.exact.proofs.Worth.{Worth, worth-whole, worth-nat, worth-add, worth-neg, worth-div, worth-of}
-use Rattle.pass.specs.Ranges.{between, temperate, pressed}
+use Rattle.pass.specs.Ranges.{temperate, pressed}
 use Rattle.liquid.specs.Questions.{takes, degrees, megapascals, raised}
 use Rattle.liquid.specs.declared.question.Question.{Question}
 

@@ -2,7 +2,6 @@
 ghost use Prim.Native.Nat.{_≤_};
 ghost use mathlib.Core.Path.{_≡_};
 ghost use lib.IntN.{pos};
-ghost use Rattle.exact.specs.Pairs.{floor, ceiling};
 ghost use Rattle.liquid.specs.Linear.{linear-factor, linear-answer, tenths as tenths-of, LinearOpened, LinearExample};
 use crate::conditions::Conditions;
 use crate::linear::Linear;

@@ -2,8 +2,8 @@
 -- The exponent of 1,000·g is U/b − W/10¹⁰, where b is the density's square in its unit.
 use Prim.Native.Nat.{ℕ, _+_, _-_, _*_, _/_, _<_, _≤_}
 use mathlib.Core.Path.{_≡_, refl, sym, subst}
-use mathlib.Core.Bool.{Bool, true, false, cond}
-use mathlib.Core.Logic.{_⊎_, inl, inr}
+use mathlib.Core.Bool.{true, false}
+use mathlib.Core.Logic.{inl, inr}
 use native.Mathlib.Omega.{arith}
 use native.Mathlib.Nat.{mul-pos, mul-le-mul, mul-le-mul-left, mul-le-mul-right, le-of-mul-le-mul-right}
 use lib.Dec.{lit<, leb}
@@ -11,8 +11,7 @@ use lib.IntN.{ℤ, pos, _+ℤ_, _-ℤ_}
 use Rattle.std.proofs.shelf.Signed.{ints}
 use Rattle.std.proofs.shelf.Tests.{cases-lt}
 use Rattle.std.proofs.shelf.Ways.{tells}
-use Rattle.exact.specs.Fractions.{Fraction, nat, add, neg, sub, mul, div}
-use Rattle.exact.specs.Pairs.{parts}
+use Rattle.exact.specs.Fractions.{Fraction, neg}
 use Rattle.exact.proofs.Worth.{Worth, worth-nat, worth-add, worth-neg, worth-mul, worth-div, worth-of}
 use Rattle.exact.proofs.Quotients.{floor-under}
 use Rattle.expsum.specs.Series.{e}
@@ -22,7 +21,6 @@ use Rattle.expsum.proofs.Bounds.{Sized, sized}
 use Rattle.expsum.proofs.Sums.{sum-rising, sum-falling}
 use Rattle.petroleum.specs.Exponential.{Figures, figures, density-squared, compression-exponent, compressibility, elastic}
 use Rattle.petroleum.specs.Rounded.{rising, over-density, beside-density, elastic-rising, elastic-falling, elastic-units}
-use Rattle.liquid.specs.Questions.{degrees, megapascals}
 use Rattle.petroleum.specs.declared.exponential.Exponential.{Exponential}
 use Rattle.liquid.proofs.Readings.{parts-worth, degrees-worth, megapascals-worth}
 use Rattle.petroleum.proofs.Openings.{squared-worth, square-least, square-most}

@@ -6,11 +6,10 @@ use mathlib.Core.Bool.{true}
 use native.Mathlib.Omega.{arith}
 use native.Mathlib.Nat.{mul-pos, mul-le-mul, mul-le-mul-left, mul-le-mul-right}
 use lib.Dec.{lit<}
-use lib.IntN.{ℤ, pos, natAbs}
+use lib.IntN.{pos, natAbs}
 use Rattle.std.proofs.shelf.Signed.{ints}
 use Rattle.exact.specs.Fractions.{Fraction, Le, div}
-use Rattle.exact.specs.Figures.{number}
-use Rattle.exact.specs.Pairs.{Holds, steps}
+use Rattle.exact.specs.Pairs.{steps}
 use Rattle.exact.proofs.Worth.{Worth, worth-div, worth-of, worth-le}
 use Rattle.exact.proofs.Quotients.{floor-under, floor-least, floor-most}
 use Rattle.expsum.proofs.Near.{Near}
@@ -20,9 +19,9 @@ use Rattle.petroleum.specs.Exponential.{figures, thermal, elastic, density-rat
 use Rattle.petroleum.specs.Rounded.{thermal-units, elastic-units, carried, exponential-steps, exponential-answer}
 use Rattle.liquid.specs.declared.question.Question.{Question}
 use Rattle.petroleum.specs.declared.exponential.Exponential.{Exponential}
-use Rattle.liquid.proofs.Readings.{Taken, taken, parts-worth}
-use Rattle.petroleum.proofs.Thermals.{Thermal, thermal-is}
-use Rattle.petroleum.proofs.Elastics.{Elastic, elastic-is}
+use Rattle.liquid.proofs.Readings.{taken, parts-worth}
+use Rattle.petroleum.proofs.Thermals.{thermal-is}
+use Rattle.petroleum.proofs.Elastics.{elastic-is}
 
 -- the four parts, each in its range
 pub record Parts (E G F H : ℕ) : Type 0 where

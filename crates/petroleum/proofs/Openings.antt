@@ -1,16 +1,16 @@
 -- b against its range, in whole numbers: b times 10⁸r², where r is in 0.01 kg/m³.
-use Prim.Native.Nat.{ℕ, _+_, _-_, _*_, _<_, _≤_}
+use Prim.Native.Nat.{ℕ, _+_, _*_, _<_, _≤_}
 use mathlib.Core.Path.{_≡_, refl, sym, ap, _∙_}
 use mathlib.Core.Bool.{Bool, true, false, _&&_, cond}
-use mathlib.Core.Logic.{_⊎_, inl, inr}
+use mathlib.Core.Logic.{inl, inr}
 use native.Mathlib.Omega.{arith}
-use native.Mathlib.Nat.{mul-pos, mul-le-mul, mul-le-mul-left, mul-le-mul-right}
+use native.Mathlib.Nat.{mul-pos, mul-le-mul}
 use lib.Dec.{lit<, leb}
 use lib.IntN.{ℤ, pos, negsuc, negℤ}
 use Rattle.std.proofs.shelf.Signed.{ints}
 use Rattle.std.proofs.shelf.Tests.{cases-lt}
 use Rattle.std.proofs.shelf.Ways.{tells}
-use Rattle.exact.specs.Fractions.{Fraction, Le, Lt, nat, whole, add, mul, div}
+use Rattle.exact.specs.Fractions.{Fraction, Le, Lt}
 use Rattle.exact.specs.Pairs.{parts}
 use Rattle.exact.proofs.Worth.{Worth, worth-whole, worth-nat, worth-add, worth-mul, worth-div, worth-of, worth-le, worth-lt}
 use Rattle.pass.specs.Ranges.{between}

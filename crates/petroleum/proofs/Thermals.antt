@@ -1,9 +1,9 @@
 -- The thermal part of the exponential liquid: e(−bΔ(1 + 0.8bΔ)) in whole units of 10⁻¹².
 -- Here y is the size of bΔ in units and s that of 0.8(bΔ)²; exactly they are N/M and 8N²/(10M²).
-use Prim.Native.Nat.{ℕ, _+_, _-_, _*_, _/_, _<_, _≤_}
+use Prim.Native.Nat.{ℕ, _+_, _-_, _*_, _<_, _≤_}
 use mathlib.Core.Path.{_≡_, refl, sym, subst}
-use mathlib.Core.Bool.{Bool, true, false, cond}
-use mathlib.Core.Logic.{_⊎_, inl, inr}
+use mathlib.Core.Bool.{true, false}
+use mathlib.Core.Logic.{inl, inr}
 use native.Mathlib.Omega.{arith}
 use native.Mathlib.Nat.{mul-pos, mul-le-mul, mul-le-mul-left, mul-le-mul-right, le-of-mul-le-mul-right}
 use lib.Dec.{lit<, leb}

@@ -1,7 +1,7 @@
 -- The exponential liquid: c(t_v, P_v)/c(t_p, P_p), where c(t, P) = e(−bΔ(1 + 0.8bΔ))/(1 − gP). Assumes nothing.
 use Prim.Native.Nat.{ℕ, _+_, _*_, _<_}
 use mathlib.Core.Path.{_≡_}
-use mathlib.Core.Bool.{Bool, true, false, _&&_, cond}
+use mathlib.Core.Bool.{Bool, _&&_, cond}
 use lib.Dec.{leb}
 use lib.IntN.{ℤ, pos, negsuc, negℤ}
 use Rattle.std.specs.declared.result.Result.{Result}

@@ -1,7 +1,7 @@
 -- The exponential liquid's pair as it is worked out, in whole units of 10⁻¹². Temperatures are in 0.01 °C above −10 °C,
 -- so that 15 °C is 2,500; n is a temperature and p a pressure in kPa. Assumes nothing.
 use Prim.Native.Nat.{ℕ, _+_, _-_, _*_, _/_}
-use mathlib.Core.Bool.{Bool, cond}
+use mathlib.Core.Bool.{cond}
 use lib.Dec.{leb}
 use lib.IntN.{pos, natAbs}
 use Rattle.expsum.specs.Terms.{terms}

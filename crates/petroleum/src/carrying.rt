@@ -1,6 +1,6 @@
 // The exponential liquid's carry factor, worked out in whole units of 10⁻¹².
 // Temperatures here are in 0.01 °C above −10 °C, so that 15 °C is 2,500; pressures are in kPa.
-ghost use Prim.Native.Nat.{_+_, _*_, _≤_, _<_};
+ghost use Prim.Native.Nat.{_+_, _*_, _≤_};
 ghost use mathlib.Core.Path.{_≡_};
 ghost use Rattle.petroleum.specs.Exponential.{figures, exponential-factor, ExponentialExample};
 ghost use Rattle.petroleum.specs.Rounded.{rising as rising-of, falling as falling-of, slope as slope-of, straight as straight-of, bent as bent-of, thermal-units, over-density, beside-density, elastic-rising, elastic-falling, elastic-units, carried as carried-of, exponential-answer};

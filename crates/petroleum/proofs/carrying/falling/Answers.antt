@@ -1,5 +1,4 @@
 use borrow.Author.Needs.{needs}
-use Prim.Native.Nat.{_≤_}
 use native.Mathlib.Omega.{arith}
 use Rattle.expsum.proofs.Bounds.{sized}
 use Rattle.petroleum.specs.Rounded.{falling}

@@ -1,4 +1,3 @@
-use Prim.Native.Nat.{_*_, _/_, _≤_}
 use native.Mathlib.Omega.{arith}
 use Rattle.petroleum.specs.Rounded.{carried}
 use Rattle.petroleum.proofs.Exponentials.{parts-at, product-most, factor-positive, steps-range}

@@ -1,0 +1,3 @@
+pub mod Near
+pub mod Bounds
+pub mod Sums

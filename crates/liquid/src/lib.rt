@@ -1,0 +1,7 @@
+// Liquids: the factor that carries a density from the densitometer's conditions to the vessel's.
+pub mod carrying;
+pub mod conditions;
+pub mod linear;
+pub mod meaning;
+pub mod question;
+pub mod reading;

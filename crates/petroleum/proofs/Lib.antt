@@ -1,0 +1,4 @@
+pub mod Openings
+pub mod Thermals
+pub mod Elastics
+pub mod Exponentials

@@ -12,7 +12,8 @@ use Rattle.exact.specs.Pairs.{floor, ceiling}
 use Rattle.exact.proofs.Worth.{Worth, worth-nat, worth-add, worth-mul, worth-div, worth-of, worth-same}
 use Rattle.exact.proofs.Pairs.{holds-parts, holds-same, holds-quotient}
 use Rattle.exact.proofs.Quotients.{floor-ceil, floor-least, ceil-most}
-use Rattle.liquid.specs.Questions.{takes, raised}
+use Rattle.liquid.specs.Questions.{takes}
+use Rattle.pass.specs.Ranges.{raised}
 use Rattle.liquid.specs.Liquids.{Carries}
 use Rattle.liquid.specs.Linear.{linear-factor, tenths}
 use Rattle.liquid.specs.declared.question.Question.{Question}

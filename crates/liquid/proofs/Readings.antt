@@ -1,7 +1,7 @@
 -- What a question that is taken gives: temperatures and pressures as natural numbers, and what they are worth.
 use Prim.Native.Nat.{ℕ, _+_, _*_, _<_, _≤_}
-use mathlib.Core.Path.{_≡_, refl}
-use mathlib.Core.Bool.{Bool, true, false, _&&_}
+use mathlib.Core.Path.{_≡_}
+use mathlib.Core.Bool.{true, _&&_}
 use native.Mathlib.Omega.{arith}
 use lib.Dec.{lit<}
 use lib.IntN.{ℤ, pos, natAbs, _+ℤ_}
@@ -9,25 +9,10 @@ use Rattle.std.proofs.shelf.Signed.{ints}
 use Rattle.exact.specs.Fractions.{Fraction, sub}
 use Rattle.exact.specs.Pairs.{parts}
 use Rattle.exact.proofs.Worth.{Worth, worth-whole, worth-nat, worth-add, worth-neg, worth-div, worth-of}
-use Rattle.pass.specs.Ranges.{temperate, pressed}
-use Rattle.liquid.specs.Questions.{takes, degrees, megapascals, raised}
+use Rattle.pass.proofs.Taken.{both, temperate-raised, pressed-natural}
+use Rattle.pass.specs.Ranges.{temperate, pressed, raised}
+use Rattle.liquid.specs.Questions.{takes, degrees, megapascals}
 use Rattle.liquid.specs.declared.question.Question.{Question}
-
-and-both : (a b : Bool) → (a && b) ≡ true → (a ≡ true) × (b ≡ true)
-and-both true b e = (refl, e)
-and-both false b e = absurd (let z : _≡_ {A = ℕ} 0 1 = cc in omega arith)
-
-warm-is : (t : ℤ) → temperate t ≡ true → t +ℤ pos 1000 ≡ pos (raised t)
-warm-is t h = grind (arith, ints)
-
-warm-most : (t : ℤ) → temperate t ≡ true → raised t ≤ 6000
-warm-most t h = grind (arith, ints)
-
-pressed-is : (p : ℤ) → pressed p ≡ true → p ≡ pos (natAbs p)
-pressed-is p h = grind (arith, ints)
-
-pressed-most : (p : ℤ) → pressed p ≡ true → natAbs p ≤ 10000
-pressed-most p h = grind (arith, ints)
 
 -- the four conditions of a question that is taken
 pub record Taken (q : Question) : Type 0 where
@@ -42,18 +27,22 @@ pub record Taken (q : Question) : Type 0 where
 
 pub taken : (q : Question) → takes q ≡ true → Taken q
 taken q h =
-    let a = and-both (temperate (q .«wall_temperature»)) (pressed (q .«vessel_pressure») && (temperate (q .«densitometer_temperature») && pressed (q .«densitometer_pressure»))) h in
-    let b = and-both (pressed (q .«vessel_pressure»)) (temperate (q .«densitometer_temperature») && pressed (q .«densitometer_pressure»)) (a .1) in
-    let c = and-both (temperate (q .«densitometer_temperature»)) (pressed (q .«densitometer_pressure»)) (b .1) in
+    let a = both (temperate (q .«wall_temperature»)) (pressed (q .«vessel_pressure») && (temperate (q .«densitometer_temperature») && pressed (q .«densitometer_pressure»))) h in
+    let b = both (pressed (q .«vessel_pressure»)) (temperate (q .«densitometer_temperature») && pressed (q .«densitometer_pressure»)) (a .1) in
+    let c = both (temperate (q .«densitometer_temperature»)) (pressed (q .«densitometer_pressure»)) (b .1) in
+    let wall = temperate-raised (q .«wall_temperature») (a .0) in
+    let vessel = pressed-natural (q .«vessel_pressure») (b .0) in
+    let temperature = temperate-raised (q .«densitometer_temperature») (c .0) in
+    let pressure = pressed-natural (q .«densitometer_pressure») (c .1) in
     record {
-      wall-is = warm-is (q .«wall_temperature») (a .0);
-      wall-most = warm-most (q .«wall_temperature») (a .0);
-      vessel-is = pressed-is (q .«vessel_pressure») (b .0);
-      vessel-most = pressed-most (q .«vessel_pressure») (b .0);
-      temperature-is = warm-is (q .«densitometer_temperature») (c .0);
-      temperature-most = warm-most (q .«densitometer_temperature») (c .0);
-      pressure-is = pressed-is (q .«densitometer_pressure») (c .1);
-      pressure-most = pressed-most (q .«densitometer_pressure») (c .1);
+      wall-is = wall .0;
+      wall-most = wall .1;
+      vessel-is = vessel .0;
+      vessel-most = vessel .1;
+      temperature-is = temperature .0;
+      temperature-most = temperature .1;
+      pressure-is = pressure .0;
+      pressure-most = pressure .1;
     }
 
 -- a natural number of k-th parts

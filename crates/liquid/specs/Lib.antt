@@ -1,3 +1,4 @@
 pub mod Questions
 pub mod Liquids
 pub mod Linear
+pub mod Asking

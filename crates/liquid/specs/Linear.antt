@@ -7,11 +7,11 @@ use Rattle.std.specs.declared.result.Result.{Result}
 use Rattle.std.specs.declared.result.Result.the-variants.{Ok, Err}
 use Rattle.exact.specs.Fractions.{Fraction, Same, nat, add, sub, mul}
 use Rattle.exact.specs.Pairs.{parts, floor, ceiling}
-use Rattle.pass.specs.Ranges.{between}
+use Rattle.pass.specs.Ranges.{between, raised}
 use Rattle.pass.specs.declared.denials.Denial.{Denial}
 use Rattle.pass.specs.declared.denials.Denial.the-variants.{Figure}
-use Rattle.liquid.specs.Questions.{degrees, megapascals, raised}
-use Rattle.liquid.specs.Liquids.{Ends}
+use Rattle.liquid.specs.Questions.{degrees, megapascals}
+use Rattle.exact.specs.Ends.{Ends}
 use Rattle.liquid.specs.declared.question.Question.{Question}
 use Rattle.liquid.specs.declared.linear.Linear.{Linear}
 

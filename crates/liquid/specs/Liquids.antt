@@ -8,15 +8,11 @@ use Rattle.std.specs.declared.result.Result.the-variants.{Ok, Err}
 use Rattle.exact.specs.Fractions.{Fraction}
 use Rattle.exact.specs.Figures.{number}
 use Rattle.exact.specs.Pairs.{Holds, steps}
+use Rattle.exact.specs.Ends.{Ends}
 use Rattle.exact.specs.declared.pair.Pair.{Pair}
 use Rattle.pass.specs.declared.denials.Field.{Field}
 use Rattle.liquid.specs.declared.question.Question.{Question}
 use Rattle.liquid.specs.Questions.{takes, fault}
-
--- the two ends of a pair
-pub record Ends : Type 0 where
-  pub low : ℤ
-  pub high : ℤ
 
 -- the pair holds the factor, lies in 0.8 to 1.2, and its ends are at most 40 steps apart
 pub record Carries (factor : Fraction) (p : Ends) : Type 0 where

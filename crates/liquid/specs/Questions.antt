@@ -1,13 +1,12 @@
 -- What a liquid is asked: the densitometer's conditions and the vessel's. Assumes nothing.
-use Prim.Native.Nat.{ℕ}
 use mathlib.Core.Path.{_≡_}
 use mathlib.Core.Bool.{Bool, true, false, _&&_, cond}
-use lib.IntN.{ℤ, pos, natAbs, _+ℤ_}
+use lib.IntN.{ℤ, natAbs}
 use Rattle.std.specs.declared.result.Result.{Result}
 use Rattle.std.specs.declared.result.Result.the-variants.{Ok, Err}
 use Rattle.exact.specs.Fractions.{Fraction}
 use Rattle.exact.specs.Pairs.{parts}
-use Rattle.pass.specs.Ranges.{temperate, pressed}
+use Rattle.pass.specs.Ranges.{temperate, pressed, raised}
 use Rattle.pass.specs.declared.denials.Field.{Field}
 use Rattle.pass.specs.declared.denials.Field.the-variants.{WallTemperature, VesselPressure, DensitometerTemperature, DensitometerPressure}
 use Rattle.liquid.specs.declared.question.Question.{Question}
@@ -28,10 +27,6 @@ degrees t = parts 100 t
 -- a pressure in MPa, from kPa
 abbrev pub megapascals : ℤ → Fraction
 megapascals p = parts 1000 p
-
--- a temperature as hundredths of a degree above −10 °C
-abbrev pub raised : ℤ → ℕ
-raised t = natAbs (t +ℤ pos 1000)
 
 -- The conditions of a question that is taken, as natural numbers.
 abbrev pub Read : Question → Result Conditions Field → Type 0

@@ -1,6 +1,7 @@
 -- The ranges of readings. Assumes nothing.
 use mathlib.Core.Bool.{Bool, _&&_}
-use lib.IntN.{ℤ, pos, negsuc}
+use Prim.Native.Nat.{ℕ}
+use lib.IntN.{ℤ, pos, negsuc, natAbs, _+ℤ_}
 use lib.Signed.{leZ}
 
 abbrev pub between : ℤ → ℤ → ℤ → Bool
@@ -17,6 +18,10 @@ lasting time = between (pos 1) (pos 600000000) time
 -- a temperature in 0.01 °C: −1,000 to 5,000
 abbrev pub temperate : ℤ → Bool
 temperate temperature = between (negsuc 999) (pos 5000) temperature
+
+-- a temperature as hundredths of a degree above −10 °C, the least that is read
+abbrev pub raised : ℤ → ℕ
+raised temperature = natAbs (temperature +ℤ pos 1000)
 
 -- a gauge pressure in kPa: 0 to 10,000
 abbrev pub pressed : ℤ → Bool

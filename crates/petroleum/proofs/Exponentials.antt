@@ -13,7 +13,8 @@ use Rattle.exact.specs.Pairs.{steps}
 use Rattle.exact.proofs.Worth.{Worth, worth-div, worth-of, worth-le}
 use Rattle.exact.proofs.Quotients.{floor-under, floor-least, floor-most}
 use Rattle.expsum.proofs.Near.{Near}
-use Rattle.liquid.specs.Questions.{takes, raised}
+use Rattle.liquid.specs.Questions.{takes}
+use Rattle.pass.specs.Ranges.{raised}
 use Rattle.liquid.specs.Liquids.{Carries}
 use Rattle.petroleum.specs.Exponential.{figures, thermal, elastic, density-ratio, exponential-factor}
 use Rattle.petroleum.specs.Rounded.{thermal-units, elastic-units, carried, exponential-steps, exponential-answer}

@@ -5,8 +5,8 @@ use mathlib.Core.Bool.{cond}
 use lib.Dec.{leb}
 use lib.IntN.{pos, natAbs}
 use Rattle.expsum.specs.Terms.{terms}
-use Rattle.liquid.specs.Questions.{raised}
-use Rattle.liquid.specs.Liquids.{Ends}
+use Rattle.pass.specs.Ranges.{raised}
+use Rattle.exact.specs.Ends.{Ends}
 use Rattle.liquid.specs.declared.question.Question.{Question}
 use Rattle.petroleum.specs.declared.exponential.Exponential.{Exponential}
 

@@ -2,13 +2,13 @@
 use Prim.Native.Nat.{ℕ, _+_, _-_, _*_, _<_}
 use mathlib.Core.Path.{_≡_}
 use mathlib.Core.Bool.{Bool, true, false, _&&_, cond}
-use lib.IntN.{ℤ, pos, natAbs, _+ℤ_}
+use lib.IntN.{ℤ, pos, natAbs}
 use Rattle.std.specs.declared.result.Result.{Result}
 use Rattle.std.specs.declared.result.Result.the-variants.{Ok, Err}
 use Rattle.exact.specs.Fractions.{Fraction}
 use Rattle.exact.specs.Pairs.{floor, ceiling}
 use Rattle.exact.specs.Ends.{Ends}
-use Rattle.pass.specs.Ranges.{between, temperate, pressed}
+use Rattle.pass.specs.Ranges.{between, temperate, pressed, raised}
 use Rattle.pass.specs.declared.readings.Record.{Record}
 use Rattle.pass.specs.declared.denials.Field.{Field}
 use Rattle.pass.specs.declared.denials.Field.the-variants.{WallTemperature, VesselPressure, RodTemperature}
@@ -49,10 +49,6 @@ abbrev pub compact-volume : CompactProver → Record → Fraction
 compact-volume v r = volume-of (v .section .volume) (compact-CTS (v .«area_expansion») (v .«rod_expansion») (r .«wall_temperature») (r .«rod_temperature»)) (CPS (v .section .bore) (v .section .wall) (v .section .modulus) (r .«vessel_pressure»))
 
 -- The pairs, in whole numbers.
--- hundredths of a degree above −10 °C
-abbrev pub raised : ℤ → ℕ
-raised temperature = natAbs (temperature +ℤ pos 1000)
-
 -- 10¹⁰·(1 + c(t − 20 °C)), c in 10⁻⁸ per °C and t raised
 abbrev pub stretch : ℕ → ℕ → ℕ
 stretch coefficient warm = 10000000000 + coefficient * warm - coefficient * 3000

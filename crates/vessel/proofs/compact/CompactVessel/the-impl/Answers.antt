@@ -1,11 +1,11 @@
 use mathlib.Core.Path.{sym, subst}
 use mathlib.Core.Bool.{_&&_}
 use lib.IntN.{ℤ, natAbs}
-use Rattle.pass.specs.Ranges.{temperate, pressed}
+use Rattle.pass.specs.Ranges.{temperate, pressed, raised}
 use Rattle.pass.proofs.Taken.{both, temperate-raised, pressed-natural}
 use Rattle.vessel.specs.Vessels.{Good}
 use Rattle.vessel.specs.Walls.{compact-CTS, CPS, volume-of}
-use Rattle.vessel.specs.Provers.{raised, compact-ends}
+use Rattle.vessel.specs.Provers.{compact-ends}
 use Rattle.vessel.proofs.Volumes.{compact-good}
 use Rattle.vessel.proofs.compact.CompactVessel.the-impl.Needs as need
 

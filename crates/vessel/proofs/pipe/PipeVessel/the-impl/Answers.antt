@@ -1,10 +1,10 @@
 use mathlib.Core.Path.{sym, subst}
 use lib.IntN.{ℤ, natAbs}
-use Rattle.pass.specs.Ranges.{temperate, pressed}
+use Rattle.pass.specs.Ranges.{temperate, pressed, raised}
 use Rattle.pass.proofs.Taken.{both, temperate-raised, pressed-natural}
 use Rattle.vessel.specs.Vessels.{Good}
 use Rattle.vessel.specs.Walls.{pipe-CTS, CPS, volume-of}
-use Rattle.vessel.specs.Provers.{raised, pipe-ends}
+use Rattle.vessel.specs.Provers.{pipe-ends}
 use Rattle.vessel.proofs.Volumes.{pipe-good}
 use Rattle.vessel.proofs.pipe.PipeVessel.the-impl.Needs as need
 

@@ -9,8 +9,8 @@ use Rattle.std.proofs.shelf.Signed.{ints}
 use Rattle.exact.specs.Fractions.{Fraction, Le, Lt, Same, whole, nat, add, sub, mul, div}
 use Rattle.exact.specs.Figures.{Figure, number, AtMost, AtLeast, Exceeds, Keeps, Within}
 use Rattle.exact.specs.Pairs.{Holds, parts, steps, floor, ceiling}
-use Rattle.exact.proofs.Order.{le-refl, le-trans, lt-le, lt-le-trans, not-lt, same-le, same-sym, nat-le, nat-positive}
-use Rattle.exact.proofs.Worth.{Worth, worth-nat, worth-whole, worth-add, worth-neg, worth-mul, worth-div, worth-le, worth-same}
+use Rattle.exact.proofs.Order.{le-refl, le-trans, le-whole, lt-le, lt-le-trans, not-lt, same-le, same-sym, nat-le, nat-positive}
+use Rattle.exact.proofs.Worth.{Worth, worth-nat, worth-whole, worth-add, worth-neg, worth-mul, worth-div, worth-le, le-worth, worth-same}
 use Rattle.exact.proofs.Arithmetic.{add-mono, sub-mono, sub-least, mul-mono}
 use Rattle.exact.proofs.Quotients.{ratio-ordered as ratio-ordered-n, sized, quotient-least, quotient-most, floor-under, ceil-over, nat-least, nat-most}
 use Rattle.exact.proofs.Figures.{lower, higher, apart}
@@ -91,3 +91,12 @@ holds-less low high l h e d x k = record {
   least = le-trans (same-le (steps-less l low e)) (sub-mono (k .least) (le-refl (nat 1)));
   most = le-trans (sub-mono (k .most) (le-refl (nat 1))) (same-le (same-sym (steps-less h high d)));
 }
+
+-- ends that hold a number are in order
+pub ordered-whole : {low high : ℤ} {x : Fraction} → Holds whole low high (number x) → low ≤ℤ high
+ordered-whole h = le-whole (le-trans (h .least) (h .most))
+
+pub ordered-steps : {low high : ℤ} {x : Fraction} → Holds steps low high (number x) → low ≤ℤ high
+ordered-steps {low} {high} h =
+    let l = le-worth (worth-div (lit< tt) (worth-whole low) (worth-nat 100000000)) (worth-div (lit< tt) (worth-whole high) (worth-nat 100000000)) (le-trans (h .least) (h .most)) in
+    omega (arith, ints, l)

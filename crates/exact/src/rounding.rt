@@ -9,7 +9,7 @@ ghost use Rattle.exact.specs.Pairs.{Holds, steps, floor as floored, ceiling};
 use crate::pair::Pair;
 
 /// top/bottom, rounded down.
-fn floor(top: u128, bottom: u128) -> i64
+pub fn floor(top: u128, bottom: u128) -> i64
     requires some { ⌜ 0 < bottom ⌝ }
     requires fits { ⌜ floored top bottom < 2 ^ 63 ⌝ }
     ensures value { λ r. ⌜ r ≡ pos (floored top bottom) ⌝ }
@@ -18,7 +18,7 @@ fn floor(top: u128, bottom: u128) -> i64
 }
 
 /// top/bottom, rounded up.
-fn ceil(top: u128, bottom: u128) -> i64
+pub fn ceil(top: u128, bottom: u128) -> i64
     requires some { ⌜ 0 < bottom ⌝ }
     requires small { ⌜ bottom < 2 ^ 126 ⌝ ∗ ⌜ top < 2 ^ 126 ⌝ }
     requires fits { ⌜ ceiling top bottom < 2 ^ 63 ⌝ }
@@ -44,7 +44,7 @@ pub fn quotient(top: u128, bottom: u128) -> Pair
 }
 
 /// An end that is not negative, for products.
-fn natural(end: i64) -> u128
+pub fn natural(end: i64) -> u128
     requires { ⌜ pos 0 ≤ℤ end ⌝ }
     ensures { λ r. ⌜ r ≡ natAbs end ⌝ }
 {

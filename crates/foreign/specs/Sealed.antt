@@ -6,7 +6,7 @@ use Rattle.exact.specs.Ends.{Ends}
 use Rattle.pass.specs.declared.readings.Record.{Record}
 use Rattle.pass.specs.declared.denials.Field.{Field}
 use Rattle.pass.specs.declared.denials.Field.the-variants.{WallTemperature}
-use Rattle.vessel.specs.declared.passes.Passes.{Passes}
+use Rattle.pass.specs.declared.passes.Passes.{Passes}
 
 abbrev pub never : Record → Bool
 never r = false

@@ -2,8 +2,8 @@
 ghost use Rattle.foreign.specs.Sealed.{never, faulty, nothing, none, any, passes as least-passes};
 use exact::pair::Pair;
 use pass::denials::Field;
+use pass::passes::Passes;
 use pass::readings::Record;
-use vessel::passes::Passes;
 use vessel::vessel::Vessel;
 
 /// A prover whose valves are sealed: it declines every record, at its wall temperature.

@@ -1,13 +1,18 @@
 -- Counts in the gate in whole numbers: n pulses, d the detector time, p the pulse time, k the factor.
 use Prim.Native.Nat.{ℕ, _+_, _-_, _*_, _<_, _≤_}
-use mathlib.Core.Path.{_≡_}
+use mathlib.Core.Path.{_≡_, refl}
 use native.Mathlib.Omega.{arith}
 use native.Mathlib.Nat.{mul-pos, mul-le-mul, mul-le-mul-left, mul-le-mul-right}
 use lib.Dec.{lit<}
-use lib.IntN.{ℤ, pos}
+use lib.IntN.{ℤ, pos, negsuc, natAbs}
+use lib.Signed.{_≤ℤ_}
+use Rattle.std.proofs.shelf.Signed.{ints}
 use Rattle.exact.specs.Fractions.{Same, whole, nat, mul, div}
+use Rattle.exact.specs.Figures.{number}
+use Rattle.exact.specs.Pairs.{Holds}
+use Rattle.exact.proofs.Pairs.{holds-same, holds-quotient}
 use Rattle.exact.proofs.Worth.{worth-nat, worth-mul, worth-div, worth-same}
-use Rattle.pass.specs.Gates.{interpolated, mass-of}
+use Rattle.pass.specs.Gates.{interpolated, mass-of, mass-low, mass-high}
 
 -- the count is at most one pulse from the pulses that were counted
 pub count-most : (n d p : ℕ) → n ≤ 800000 → ((d - p) + (p - d)) * n ≤ p → n * d ≤ 800001 * p
@@ -40,3 +45,15 @@ unfolding interpolated
 count-same c n d p e o =
     worth-same (worth-div o (worth-nat (10000 * c)) (worth-nat p))
     (worth-mul (worth-div o (worth-mul (worth-nat n) (worth-nat d)) (worth-nat p)) (worth-nat 10000)) (rw e (omega arith))
+
+-- the pair of a counted mass holds it
+pub mass-holds : (k n d p : ℕ) → 0 < p → 0 < k → Holds whole (pos (mass-low k n d p)) (pos (mass-high k n d p)) (number (mass-of (pos k) (interpolated (pos n) (pos d) (pos p))))
+mass-holds k n d p o q = holds-same (mass-same (n * d) n d p k refl o q) (holds-quotient (10000000000000 * (n * d)) (p * k) (mul-pos o q))
+
+-- the same of a record's fields that are in range
+pub mass-holds-read : (k : ℕ) (n d p : ℤ) → 0 < k → pos 0 ≤ℤ n → pos 0 ≤ℤ d → pos 1 ≤ℤ p
+    → Holds whole (pos (mass-low k (natAbs n) (natAbs d) (natAbs p))) (pos (mass-high k (natAbs n) (natAbs d) (natAbs p))) (number (mass-of (pos k) (interpolated n d p)))
+mass-holds-read k (pos n) (pos d) (pos p) q a b c = mass-holds k n d p (omega (arith, ints)) q
+mass-holds-read k (negsuc n) d p q a b c = absurd (a .le)
+mass-holds-read k (pos n) (negsuc d) p q a b c = absurd (b .le)
+mass-holds-read k (pos n) (pos d) (negsuc p) q a b c = absurd (c .le)

@@ -8,6 +8,7 @@ use lib.Signed.{_≤ℤ_, leZ}
 use Rattle.std.proofs.shelf.Signed.{ints}
 use Rattle.exact.proofs.Quotients.{sized}
 use Rattle.pass.specs.Ranges.{between, temperate, pressed}
+use Rattle.pass.specs.Values.{weighable}
 
 -- both tests passed
 pub both : (a b : Bool) → (a && b) ≡ true → (a ≡ true) × (b ≡ true)
@@ -34,3 +35,10 @@ pressed-natural p h =
     let l = least-of (pos 0) (pos 10000) p h in
     let m = most-of (pos 0) (pos 10000) p h in
     (sized p l, omega (arith, ints))
+
+-- a pair that a reference may give, from the test that it passed
+pub weighable-least : (low high : ℤ) → weighable low high ≡ true → pos 10000000 ≤ℤ low
+weighable-least low high h = let e = both (leZ (pos 10000000) low) (leZ high (pos 30000000000)) h .0 in grind (arith, ints)
+
+pub weighable-most : (low high : ℤ) → weighable low high ≡ true → high ≤ℤ pos 30000000000
+weighable-most low high h = let e = both (leZ (pos 10000000) low) (leZ high (pos 30000000000)) h .1 in grind (arith, ints)

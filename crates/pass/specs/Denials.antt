@@ -4,7 +4,7 @@ use mathlib.Core.List.{List, [], _∷_}
 use Rattle.pass.specs.declared.denials.Field.{Field}
 use Rattle.pass.specs.declared.denials.Field.the-variants.{Together, Pulses, DetectorTime, PulseTime, WallTemperature, VesselPressure, RodTemperature, DensitometerTemperature, DensitometerPressure, Density, MasterPulses, MasterTime}
 use Rattle.pass.specs.declared.denials.Device.{Device}
-use Rattle.pass.specs.declared.denials.Device.the-variants.{Master, Mass}
+use Rattle.pass.specs.declared.denials.Device.the-variants.{Vessel, Densitometer, Master, Liquid, Mass}
 use Rattle.pass.specs.declared.denials.Fault.{Fault}
 use Rattle.pass.specs.declared.denials.Denial.{Denial}
 use Rattle.pass.specs.declared.denials.Denial.the-variants.{Figure, Meter, Reference, Value}
@@ -26,7 +26,10 @@ field-number MasterTime = 11
 
 -- a device's number
 abbrev pub device-number : Device → ℕ
+device-number Vessel = 1
+device-number Densitometer = 2
 device-number Master = 3
+device-number Liquid = 4
 device-number Mass = 5
 
 -- a denial's number

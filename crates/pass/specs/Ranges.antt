@@ -27,6 +27,10 @@ raised temperature = natAbs (temperature +ℤ pos 1000)
 abbrev pub pressed : ℤ → Bool
 pressed pressure = between (pos 0) (pos 10000) pressure
 
+-- a density in 0.01 kg/m³: 60,000 to 120,000
+abbrev pub dense : ℤ → Bool
+dense density = between (pos 60000) (pos 120000) density
+
 -- a meter's factor, in ten-thousandths of a pulse per tonne: 10⁷ to 10⁹
 abbrev pub settable : ℤ → Bool
 settable factor = between (pos 10000000) (pos 1000000000) factor

@@ -21,8 +21,14 @@ pub enum Field {
 /// A device that a reference is made of.
 #[derive(Clone, Copy, PartialEq, Eq, Debug, Drop)]
 pub enum Device {
+    /// The vessel.
+    Vessel,
+    /// The densitometer: fields 7 to 9.
+    Densitometer,
     /// The master meter.
     Master,
+    /// The liquid.
+    Liquid,
     /// The reference mass itself.
     Mass,
 }

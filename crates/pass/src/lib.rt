@@ -10,6 +10,7 @@ pub mod masses;
 pub mod meter;
 pub mod metering;
 pub mod numbers;
+pub mod passes;
 pub mod ranges;
 pub mod readings;
 pub mod value;

@@ -33,7 +33,10 @@ impl Device {
         ensures { λ r. ⌜ r ≡ device-number (now (self .entry)) ⌝ }
     {
         match self {
+            Device::Vessel => 1,
+            Device::Densitometer => 2,
             Device::Master => 3,
+            Device::Liquid => 4,
             Device::Mass => 5,
         }
     }

@@ -1,1 +1,2 @@
+pub mod References
 pub mod Masters

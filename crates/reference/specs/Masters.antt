@@ -2,13 +2,11 @@
 use Prim.Native.Nat.{ℕ}
 use mathlib.Core.Path.{_≡_}
 use mathlib.Core.Bool.{Bool, true, false, _&&_, cond}
-use lib.IntN.{ℤ, pos, natAbs, _+ℤ_}
-use lib.Signed.{_≤ℤ_}
+use lib.IntN.{ℤ, pos, natAbs}
 use Rattle.std.specs.declared.result.Result.{Result}
 use Rattle.std.specs.declared.result.Result.the-variants.{Ok, Err}
-use Rattle.exact.specs.Fractions.{Fraction, whole}
-use Rattle.exact.specs.Figures.{number}
-use Rattle.exact.specs.Pairs.{Holds}
+use Rattle.exact.specs.Fractions.{Fraction}
+use Rattle.exact.specs.Ends.{Ends}
 use Rattle.pass.specs.Ranges.{countable, lasting, settable}
 use Rattle.pass.specs.Gates.{matched, interpolated, mass-of, mass-low, mass-high}
 use Rattle.pass.specs.Values.{weighable}
@@ -21,7 +19,8 @@ use Rattle.pass.specs.declared.denials.Fault.{Fault}
 use Rattle.pass.specs.declared.denials.Denial.{Denial}
 use Rattle.pass.specs.declared.denials.Denial.the-variants.{Figure}
 use Rattle.pass.specs.declared.gate.Gate.{Gate}
-use Rattle.pass.specs.declared.masses.ReferenceMass.{ReferenceMass}
+use Rattle.pass.specs.declared.passes.Passes.{Passes}
+use Rattle.reference.specs.References.{faulted}
 use Rattle.reference.specs.declared.master.MasterMeter.{MasterMeter}
 
 -- the exact mass in milligrams: 10¹³·N_m·Td/(T_m·K_m)
@@ -35,6 +34,9 @@ master-low factor r = mass-low factor (natAbs (r .«master_pulses»)) (natAbs (r
 abbrev pub master-high : ℕ → Record → ℕ
 master-high factor r = mass-high factor (natAbs (r .«master_pulses»)) (natAbs (r .«detector_time»)) (natAbs (r .«master_time»))
 
+abbrev pub master-answer : MasterMeter → Record → Ends
+master-answer m r = record { low = pos (master-low (m .factor .«ten_thousandths») r); high = pos (master-high (m .factor .«ten_thousandths») r) }
+
 -- fields 2, 10 and 11 are in range, and the two times match
 abbrev pub master-counts : Record → Bool
 master-counts r = lasting (r .«detector_time») && (countable (r .«master_pulses») && (lasting (r .«master_time») && matched (r .«master_pulses») (r .«detector_time») (r .«master_time»)))
@@ -44,9 +46,6 @@ abbrev pub master-takes : ℕ → Record → Bool
 master-takes factor r = master-counts r && weighable (pos (master-low factor r)) (pos (master-high factor r))
 
 -- otherwise it names the lowest field out of range, field 11 where the two times do not match, and then the mass
-abbrev pub faulted : Device → Field → Fault
-faulted device field = record { device = device; field = field }
-
 abbrev pub master-field : Record → Field
 master-field r = cond (lasting (r .«detector_time»)) (cond (countable (r .«master_pulses»)) MasterTime MasterPulses) DetectorTime
 
@@ -62,8 +61,9 @@ abbrev pub Gated : Record → Result Gate Fault → Type 0
 Gated r (Ok g) = (master-counts r ≡ true) × (r .«master_pulses» ≡ pos (g .pulses)) × (r .«detector_time» ≡ pos (g .«detector_time»)) × (r .«master_time» ≡ pos (g .«pulse_time»))
 Gated r (Err f) = (master-counts r ≡ false) × (f ≡ faulted Master (master-field r))
 
--- Asked for a pass, it gives the pair that holds the exact mass where it takes the record, and names the fault otherwise.
-abbrev pub Weighed : ℕ → Record → Result ReferenceMass Fault → Type 0
-Weighed factor r (Ok m) = (master-takes factor r ≡ true) × (m .pair .low ≡ pos (master-low factor r)) × (m .pair .high ≡ pos (master-high factor r))
-    × Holds whole (m .pair .low) (m .pair .high) (number (master-mass factor r)) × (m .pair .high ≤ℤ (m .pair .low +ℤ pos 1))
-Weighed factor r (Err f) = (master-takes factor r ≡ false) × (f ≡ master-fault r)
+-- it uses fields 2, 10 and 11
+abbrev pub master-alike : Record → Record → Type 0
+master-alike p q = (p .«detector_time» ≡ q .«detector_time») × (p .«master_pulses» ≡ q .«master_pulses») × (p .«master_time» ≡ q .«master_time»)
+
+abbrev pub master-passes : Passes
+master-passes = record { working = 5; check = 7 }

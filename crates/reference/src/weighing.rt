@@ -1,6 +1,7 @@
 // The master meter as a reference: its opening, and the mass that it gives of a pass.
-ghost use Rattle.reference.specs.Masters.{MasterOpened, Gated, Weighed};
+ghost use Rattle.reference.specs.Masters.{MasterOpened, Gated, master-takes, master-fault, master-mass, master-answer, master-alike, master-passes};
 use crate::master::MasterMeter;
+use crate::reference::Reference;
 use pass::counting::matched;
 use pass::denials::Denial;
 use pass::denials::Device;
@@ -9,6 +10,7 @@ use pass::denials::Field;
 use pass::factor::Factor;
 use pass::gate::Gate;
 use pass::masses::ReferenceMass;
+use pass::passes::Passes;
 use pass::ranges::in_range;
 use pass::readings::Record;
 
@@ -58,11 +60,29 @@ impl MasterMeter {
             pulse_time,
         })
     }
+}
 
-    /// The mass of a pass by the master meter, in milligrams.
-    pub fn ask(&self, pass: &Record) -> Result<ReferenceMass, Fault>
-        ensures { λ r. ⌜ Weighed (now (self .entry) .factor .«ten_thousandths») (now (pass .entry)) r ⌝ }
-    {
+pub impl Reference for MasterMeter as MasterReference {
+    ghost takes = { λ m r. master-takes (m .factor .«ten_thousandths») r };
+
+    ghost fault = { λ _ r. master-fault r };
+
+    ghost mass = { λ m r. master-mass (m .factor .«ten_thousandths») r };
+
+    ghost answer = { master-answer };
+
+    ghost alike = { master-alike };
+
+    ghost least = { λ _. master-passes };
+
+    fn passes(&self) -> Passes {
+        Passes {
+            working: 5,
+            check: 7,
+        }
+    }
+
+    fn ask(&self, pass: &Record) -> Result<ReferenceMass, Fault> {
         let gate = MasterMeter::gate(pass)?;
         let counted = gate.mass(&self.factor);
         match ReferenceMass::new(counted.pair) {

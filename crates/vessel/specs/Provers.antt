@@ -15,7 +15,7 @@ use Rattle.pass.specs.declared.denials.Field.the-variants.{WallTemperature, Ves
 use Rattle.pass.specs.declared.denials.Denial.{Denial}
 use Rattle.pass.specs.declared.denials.Denial.the-variants.{Figure}
 use Rattle.vessel.specs.Walls.{pipe-CTS, compact-CTS, CPS, volume-of}
-use Rattle.vessel.specs.declared.passes.Passes.{Passes}
+use Rattle.pass.specs.declared.passes.Passes.{Passes}
 use Rattle.vessel.specs.declared.provers.Section.{Section}
 use Rattle.vessel.specs.declared.provers.PipeProver.{PipeProver}
 use Rattle.vessel.specs.declared.provers.CompactProver.{CompactProver}

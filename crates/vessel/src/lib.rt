@@ -2,7 +2,6 @@
 pub mod compact;
 pub mod figures;
 pub mod opening;
-pub mod passes;
 pub mod pipe;
 pub mod provers;
 pub mod vessel;

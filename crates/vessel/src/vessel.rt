@@ -6,11 +6,11 @@ ghost use Rattle.exact.specs.Fractions.{Fraction};
 ghost use Rattle.exact.specs.Ends.{Ends};
 ghost use Rattle.pass.specs.declared.readings.Record.{Record as RecordT};
 ghost use Rattle.pass.specs.declared.denials.Field.{Field as FieldT};
-ghost use Rattle.vessel.specs.declared.passes.Passes.{Passes as PassesT};
+ghost use Rattle.pass.specs.declared.passes.Passes.{Passes as PassesT};
 ghost use Rattle.vessel.specs.Vessels.{Good, Same, Asked};
-use crate::passes::Passes;
 use exact::pair::Pair;
 use pass::denials::Field;
+use pass::passes::Passes;
 use pass::readings::Record;
 
 /// A vessel of known volume, through which the liquid of a pass goes.

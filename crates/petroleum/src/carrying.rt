@@ -70,7 +70,7 @@ fn beside_density(temperature: u32) -> u128
 }
 
 impl Exponential {
-    /// r², in 10⁻⁴ kg²/m⁶.
+    /// r², in 10⁻⁴ (kg/m³)².
     fn square(&self) -> u128
         ensures value { λ r. ⌜ r ≡ now (self .entry) .density * now (self .entry) .density ⌝ }
         ensures range { λ r. ⌜ 3600000000 ≤ r ⌝ ∗ ⌜ r ≤ 14400000000 ⌝ }

@@ -36,7 +36,8 @@ bent y = (4 * y * y) / 5000000000000
 unfoldable pub thermal-units : Exponential → ℕ → ℕ
 thermal-units l n = cond (leb 2500 n) (falling (straight l n + bent (straight l n))) (rising (straight l n - bent (straight l n)))
 
--- the part of the compression's exponent that is over r², and the part that is not
+-- The part of the compression's exponent that is over r², and the part that is not. Their constants are the formula's, moved by
+-- the 1,000 hundredths that temperatures are raised by: 8,709,600,000 − 420,920·1,000, and 16,208,000,000 + 21,592·1,000.
 unfoldable pub over-density : Exponential → ℕ → ℕ
 over-density l n = (1000000000000 * (8288680000 + 420920 * n)) / (l .density * l .density)
 

@@ -42,7 +42,7 @@ fn bent(y: u128) -> u128
 }
 
 /// 1 − gP where the exponent of g is not negative, rounded down.
-fn relieved_rising(size: u128, pressure: u32) -> u128
+fn elastic_rising(size: u128, pressure: u32) -> u128
     requires small { ⌜ size ≤ 1400000000000 ⌝ }
     requires pressed { ⌜ pressure ≤ 10000 ⌝ }
     ensures value { λ r. ⌜ r ≡ elastic-rising size pressure ⌝ }
@@ -51,7 +51,7 @@ fn relieved_rising(size: u128, pressure: u32) -> u128
 }
 
 /// 1 − gP where the exponent of g is negative, rounded down.
-fn relieved_falling(size: u128, pressure: u32) -> u128
+fn elastic_falling(size: u128, pressure: u32) -> u128
     requires small { ⌜ size ≤ 1050000000000 ⌝ }
     requires pressed { ⌜ pressure ≤ 10000 ⌝ }
     ensures value { λ r. ⌜ r ≡ elastic-falling size pressure ⌝ }
@@ -62,7 +62,7 @@ fn relieved_falling(size: u128, pressure: u32) -> u128
 }
 
 /// The part of the exponent of g that is not over r².
-fn beside(temperature: u32) -> u128
+fn beside_density(temperature: u32) -> u128
     requires warm { ⌜ temperature ≤ 6000 ⌝ }
     ensures value { λ r. ⌜ r ≡ beside-density temperature ⌝ }
 {
@@ -70,7 +70,7 @@ fn beside(temperature: u32) -> u128
 }
 
 impl Exponential {
-    /// r², in 10⁻⁴ kg²/m⁶.
+    /// r², in 10⁻⁴ (kg/m³)².
     fn square(&self) -> u128
         ensures value { λ r. ⌜ r ≡ now (self .entry) .density * now (self .entry) .density ⌝ }
         ensures range { λ r. ⌜ 3600000000 ≤ r ⌝ ∗ ⌜ r ≤ 14400000000 ⌝ }
@@ -112,7 +112,7 @@ impl Exponential {
     }
 
     /// The part of the exponent of g that is over r², rounded down.
-    fn over(&self, temperature: u32) -> u128
+    fn over_density(&self, temperature: u32) -> u128
         requires warm { ⌜ temperature ≤ 6000 ⌝ }
         ensures value { λ r. ⌜ r ≡ over-density (now (self .entry)) temperature ⌝ }
     {
@@ -126,12 +126,12 @@ impl Exponential {
         ensures value { λ r. ⌜ r ≡ elastic-units (now (self .entry)) temperature pressure ⌝ }
         ensures range { λ r. ⌜ 956000000000 ≤ r ⌝ ∗ ⌜ r ≤ 1001000000000 ⌝ }
     {
-        let over = self.over(temperature);
-        let beside = beside(temperature);
+        let over = self.over_density(temperature);
+        let beside = beside_density(temperature);
         if beside <= over {
-            relieved_rising(over - beside, pressure)
+            elastic_rising(over - beside, pressure)
         } else {
-            relieved_falling(beside - over, pressure)
+            elastic_falling(beside - over, pressure)
         }
     }
 

@@ -3,7 +3,7 @@ use Prim.Native.Nat.{_*_, _≤_}
 use native.Mathlib.Omega.{arith}
 use native.Mathlib.Nat.{mul-le-mul}
 use Rattle.petroleum.specs.Rounded.{elastic-rising}
-use Rattle.petroleum.proofs.carrying.relieved_rising.Needs as need
+use Rattle.petroleum.proofs.carrying.elastic_rising.Needs as need
 
 pub sub-result : need.sub-result
 sub-result c =

@@ -2,7 +2,7 @@ use borrow.Author.Needs.{needs}
 use native.Mathlib.Omega.{arith}
 use Rattle.petroleum.specs.Rounded.{elastic-falling}
 use Rattle.petroleum.proofs.Elastics.{products-most}
-use Rattle.petroleum.proofs.carrying.relieved_falling.Needs as need
+use Rattle.petroleum.proofs.carrying.elastic_falling.Needs as need
 
 pub mul-result : need.mul-result
 mul-result c =

@@ -1,6 +1,6 @@
 use borrow.Author.Needs.{needs}
 use Rattle.petroleum.specs.Rounded.{beside-density}
-use Rattle.petroleum.proofs.carrying.beside.Needs as need
+use Rattle.petroleum.proofs.carrying.beside_density.Needs as need
 
 pub returns : need.returns
 unfolding beside-density

@@ -9,6 +9,7 @@ mod passes {
     use pass::meter::Meter;
     use pass::readings::Record;
     use reference::master::MasterMeter;
+    use reference::weighing::MasterReference;
     use sheet::figures::Sheet;
     use std::test::*;
 
@@ -65,7 +66,7 @@ mod passes {
     fn a_meter_that_counts_less_than_its_master_has_a_factor_above_one() -> Result<(), Fail> {
         let meter = Meter::open(100_000_000)?;
         let master = MasterMeter::open(100_000_000)?;
-        let s = Sheet::against_master(&meter, &master, &timed(2_000, 9_999_000, 10_000_000))?;
+        let s = Sheet::against(&meter, &master, &timed(2_000, 9_999_000, 10_000_000))?;
         check_eq(s.meter_mass.low, 199_980_000)?;
         check_eq(s.reference_mass.low, 200_000_000)?;
         check_eq(s.meter_factor.low, 100_010_001)?;

@@ -1,2 +1,4 @@
 // Devices as another maker would write them, outside the library.
+pub mod scale;
 pub mod sealed;
+pub mod tank;

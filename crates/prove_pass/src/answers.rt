@@ -4,6 +4,16 @@ use pass::denials::Denial;
 use pass::denials::Field;
 use sheet::figures::Sheet;
 
+/// A pass against a prover: its volume, its carry factor and its sheet.
+#[derive(Clone, Copy, Drop)]
+pub struct Proving {
+    /// In microlitres.
+    pub volume: Pair,
+    /// In steps.
+    pub factor: Pair,
+    pub sheet: Sheet,
+}
+
 /// The answer to a line.
 #[derive(Clone, Copy, Drop)]
 pub enum Answer {
@@ -11,12 +21,16 @@ pub enum Answer {
     Unread,
     /// A call was denied.
     Denied(Denial),
-    /// The vessel does not take the record: the field that it faults.
+    /// The device does not take the record: the field that it faults.
     Faulted(Field),
     /// A volume, in microlitres.
     Volume(Pair),
-    /// All figures of a pass.
+    /// A carry factor, in steps.
+    Carry(Pair),
+    /// A pass against a master meter.
     Figures(Sheet),
+    /// A pass against a prover.
+    Proved(Proving),
 }
 
 impl Answer {
@@ -28,7 +42,15 @@ impl Answer {
         }
     }
 
-    /// What a whole pass gave.
+    /// What a liquid gave.
+    pub fn of_liquid(asked: Result<Pair, Field>) -> Answer {
+        match asked {
+            Ok(p) => Answer::Carry(p),
+            Err(field) => Answer::Faulted(field),
+        }
+    }
+
+    /// What a pass against a master meter gave.
     pub fn of_pass(worked: Result<Sheet, Denial>) -> Answer {
         match worked {
             Ok(s) => Answer::Figures(s),

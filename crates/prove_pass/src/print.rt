@@ -1,5 +1,6 @@
 // What the program prints.
 use crate::answers::Answer;
+use crate::answers::Proving;
 use exact::pair::Pair;
 use pass::denials::Denial;
 use sheet::figures::Sheet;
@@ -14,13 +15,19 @@ fn pair(rt: &LibcRuntime, name: &str, p: Pair, unit: &str) -> io::Result<()> {
 
 /// The six pairs of a sheet.
 fn figures(rt: &LibcRuntime, s: Sheet) -> io::Result<()> {
-    println!(rt, "sheet")?;
     pair(rt, "  count", s.count, "ten-thousandths of a pulse")?;
     pair(rt, "  meter mass", s.meter_mass, "mg")?;
     pair(rt, "  reference mass", s.reference_mass, "mg")?;
     pair(rt, "  K", s.pulse_factor, "steps of the set factor")?;
     pair(rt, "  MF", s.meter_factor, "steps")?;
     pair(rt, "  F", s.correction, "steps")
+}
+
+/// A pass against a prover.
+fn proved(rt: &LibcRuntime, p: Proving) -> io::Result<()> {
+    pair(rt, "  volume", p.volume, "µl")?;
+    pair(rt, "  carry factor", p.factor, "steps")?;
+    figures(rt, p.sheet)
 }
 
 /// A denial: its number, and what it carries.
@@ -51,6 +58,14 @@ pub fn answer(rt: &LibcRuntime, a: Answer) -> io::Result<()> {
             println!(rt, "fault field {f}")
         }
         Answer::Volume(p) => pair(rt, "volume", p, "µl"),
-        Answer::Figures(s) => figures(rt, s),
+        Answer::Carry(p) => pair(rt, "carry factor", p, "steps"),
+        Answer::Figures(s) => {
+            println!(rt, "sheet")?;
+            figures(rt, s)
+        }
+        Answer::Proved(p) => {
+            println!(rt, "sheet")?;
+            proved(rt, p)
+        }
     }
 }

@@ -1,4 +1,4 @@
-// Working out the sheet of a pass against a master meter.
+// Working out the sheet of a pass.
 ghost use mathlib.Core.Path.{_≡_};
 ghost use Rattle.pass.specs.Kinds.{K, MF, F as Signed};
 ghost use Rattle.sheet.specs.Sheets.{Valued, WorkedOut};
@@ -15,7 +15,7 @@ use pass::masses::Masses;
 use pass::meter::Meter;
 use pass::readings::Record;
 use pass::value::Value;
-use reference::master::MasterMeter;
+use reference::reference::Reference;
 
 impl Sheet {
     /// The sheet of an accepted pass, from its count and its two masses.
@@ -35,17 +35,17 @@ impl Sheet {
         }
     }
 
-    /// The sheet of a pass against a master meter, or why it is denied: first by the meter, then by the reference, then by the value.
-    pub fn against_master(
+    /// The sheet of a pass against a reference, or why it is denied: first by the meter, then by the reference, then by the value.
+    pub fn against<R: Reference>(
         meter: &Meter,
-        master: &MasterMeter,
+        reference: &R,
         pass: &Record,
     ) -> Result<Sheet, Denial>
-        ensures { λ r. ⌜ WorkedOut (now (meter .entry) .factor .«ten_thousandths») (now (master .entry) .factor .«ten_thousandths») (now (pass .entry)) r ⌝ }
+        ensures { λ r. ⌜ WorkedOut (now (meter .entry) .factor .«ten_thousandths») (R·Reference .takes (now (reference .entry)) (now (pass .entry))) (R·Reference .fault (now (reference .entry)) (now (pass .entry))) (R·Reference .mass (now (reference .entry)) (now (pass .entry))) (R·Reference .answer (now (reference .entry)) (now (pass .entry))) (now (pass .entry)) r ⌝ }
     {
         let count = Meter::count(pass)?;
         let counted = meter.mass(pass)?;
-        let weighed = match master.ask(pass) {
+        let weighed = match reference.ask(pass) {
             Ok(mass) => mass,
             Err(fault) => return Err(Denial::Reference(fault)),
         };

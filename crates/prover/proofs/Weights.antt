@@ -11,23 +11,21 @@ use Rattle.std.proofs.shelf.Signed.{ints}
 use Rattle.exact.specs.Fractions.{Fraction, Le, whole, nat, mul}
 use Rattle.exact.specs.Figures.{number}
 use Rattle.exact.specs.Pairs.{Holds, steps, floor, ceiling}
-use Rattle.exact.specs.Ends.{Ends, Has}
-use Rattle.exact.specs.declared.pair.Pair.{Pair}
+use Rattle.exact.specs.Ends.{Ends}
 use Rattle.exact.proofs.Order.{le-refl, le-trans, nat-le, nat-positive}
 use Rattle.exact.proofs.Worth.{Worth, worth-nat, worth-mul, worth-div, worth-le}
 use Rattle.exact.proofs.Arithmetic.{mul-mono}
 use Rattle.exact.proofs.Quotients.{quotient-least, quotient-most, floor-under, ceil-over, ceil-most, sized}
 use Rattle.exact.proofs.Pairs.{holds-ends, ordered-whole, ordered-steps}
 use Rattle.std.proofs.shelf.Ways.{tells}
-use Rattle.std.specs.declared.result.Result.the-variants.{Ok, Err}
+use Rattle.std.specs.declared.result.Result.the-variants.{Err}
 use Rattle.pass.specs.Values.{weighable, fine}
 use Rattle.pass.specs.Ranges.{dense}
 use Rattle.pass.proofs.Taken.{least-of, most-of, weighable-least, weighable-most}
-use Rattle.pass.specs.declared.denials.Field.{Field}
 use Rattle.pass.specs.declared.denials.Field.the-variants.{Together}
 use Rattle.pass.specs.declared.denials.Device.the-variants.{Mass}
 use Rattle.pass.specs.declared.denials.Fault.{Fault}
-use Rattle.vessel.specs.Vessels.{Good, Asked}
+use Rattle.vessel.specs.Vessels.{Good}
 use Rattle.liquid.specs.Liquids.{Carries}
 use Rattle.reference.specs.References.{Weighs, faulted, Asked as Weighed}
 use Rattle.prover.specs.Masses.{mass-of, mass-ends}
@@ -160,11 +158,6 @@ product-same f {v} {w} {c} {d} {ρ} {n} h k j =
     subst (λ (z : ℕ). pos (f (natAbs v * n * natAbs c) 10000000000000) ≡ pos (f (natAbs w * z * natAbs d) 10000000000000)) m
     (subst (λ (z : ℤ). pos (f (natAbs v * n * natAbs c) 10000000000000) ≡ pos (f (natAbs z * n * natAbs d) 10000000000000)) h
     (ap (λ (z : ℤ). pos (f (natAbs v * n * natAbs z) 10000000000000)) j))
-
--- a vessel that answered took the record
-pub answered : (t : Bool) (e : Ends) (f : Field) (p : Pair) → Asked t e f (Ok p) → (t ≡ true) × Has p e
-answered true e f p h = (refl, h)
-answered false e f p h = absurd h
 
 -- the mass is at fault where all else is taken
 pub mass-fault : (a b c d : Bool) (e : Ends) (f g h : Fault) → a ≡ true → b ≡ true → c ≡ true → d ≡ false

@@ -1,10 +1,14 @@
 -- The mass of a pass by a prover: the vessel's volume, the density at the densitometer, and the liquid's carry factor. Assumes nothing.
-use Prim.Native.Nat.{ℕ, _*_}
-use mathlib.Core.Bool.{Bool, _&&_, cond}
+use Prim.Native.Nat.{ℕ, _*_, _≤_}
+use mathlib.Core.Path.{_≡_}
+use mathlib.Core.Bool.{Bool, true, false, _&&_, cond}
+use Rattle.std.specs.declared.result.Result.{Result}
+use Rattle.std.specs.declared.result.Result.the-variants.{Ok, Err}
 use lib.IntN.{ℤ, pos, natAbs}
 use Rattle.exact.specs.Fractions.{Fraction, whole, nat, mul, div}
 use Rattle.exact.specs.Pairs.{floor, ceiling}
-use Rattle.exact.specs.Ends.{Ends}
+use Rattle.exact.specs.Ends.{Ends, Has}
+use Rattle.exact.specs.declared.pair.Pair.{Pair}
 use Rattle.pass.specs.Ranges.{temperate, pressed, dense}
 use Rattle.pass.specs.Values.{weighable}
 use Rattle.pass.specs.declared.readings.Record.{Record}
@@ -42,3 +46,16 @@ prover-takes vessel r e = vessel && (measured r && (liquid-takes (question-of r)
 abbrev pub prover-fault : Bool → Field → Record → Fault
 prover-fault vessel field r =
     cond vessel (cond (measured r) (cond (liquid-takes (question-of r)) (faulted Mass Together) (faulted Liquid (liquid-fault (question-of r)))) (faulted Densitometer (unmeasured r))) (faulted Vessel field)
+
+-- Each device in turn: what it gives, or its fault under its name.
+abbrev pub VolumeGiven : Bool → Ends → Field → Result Pair Fault → Type 0
+VolumeGiven takes e field (Ok p) = (takes ≡ true) × Has p e
+VolumeGiven takes e field (Err f) = (takes ≡ false) × (f ≡ faulted Vessel field)
+
+abbrev pub DensityGiven : Record → Result ℕ Fault → Type 0
+DensityGiven r (Ok n) = (measured r ≡ true) × (r .density ≡ pos n) × (n ≤ 120000)
+DensityGiven r (Err f) = (measured r ≡ false) × (f ≡ faulted Densitometer (unmeasured r))
+
+abbrev pub CarryGiven : Record → Ends → Result Pair Fault → Type 0
+CarryGiven r e (Ok p) = (liquid-takes (question-of r) ≡ true) × Has p e
+CarryGiven r e (Err f) = (liquid-takes (question-of r) ≡ false) × (f ≡ faulted Liquid (liquid-fault (question-of r)))

@@ -1,13 +1,10 @@
 // The mass of a pass by a prover.
-ghost use Prim.Native.Nat.{_≤_};
 ghost use mathlib.Core.Path.{_≡_};
-ghost use mathlib.Core.Bool.{true, false};
-ghost use lib.IntN.{pos};
-ghost use Rattle.std.specs.Results.{Cases as ByOk};
 ghost use Rattle.liquid.specs.Asking.{question-of};
-ghost use Rattle.prover.specs.Masses.{mass-of, mass-ends, measured, unmeasured, prover-takes, prover-fault};
+ghost use Rattle.prover.specs.Masses.{mass-of, mass-ends, prover-takes, prover-fault, VolumeGiven, DensityGiven, CarryGiven};
 use crate::products::weigh;
 use crate::prover::Prover;
+use exact::pair::Pair;
 use liquid::meaning::Liquid;
 use liquid::question::Question;
 use pass::denials::Device;
@@ -22,19 +19,55 @@ use pass::readings::Record;
 use reference::reference::Reference;
 use vessel::vessel::Vessel;
 
-/// The density of a pass in 0.01 kg/m³, if the densitometer's three fields are in range.
-fn density(pass: &Record) -> Result<u32, Field>
-    ensures { λ r. ⌜ ByOk r (λ n. (measured (now (pass .entry)) ≡ true) × (now (pass .entry) .density ≡ pos n) × (n ≤ 120000)) (λ f. (measured (now (pass .entry)) ≡ false) × (f ≡ unmeasured (now (pass .entry)))) ⌝ }
+/// The volume that the vessel gives of a pass, in microlitres.
+fn volume<V: Vessel>(vessel: &V, pass: &Record) -> Result<Pair, Fault>
+    ensures { λ r. ⌜ VolumeGiven (V·Vessel .takes (now (vessel .entry)) (now (pass .entry))) (V·Vessel .answer (now (vessel .entry)) (now (pass .entry))) (V·Vessel .fault (now (vessel .entry)) (now (pass .entry))) r ⌝ }
 {
+    match vessel.ask(pass) {
+        Ok(volume) => Ok(volume),
+        Err(field) => Err(Fault {
+            device: Device::Vessel,
+            field,
+        }),
+    }
+}
+
+/// The density of a pass in 0.01 kg/m³, if the densitometer's three fields are in range.
+fn density(pass: &Record) -> Result<u32, Fault>
+    ensures { λ r. ⌜ DensityGiven (now (pass .entry)) r ⌝ }
+{
+    let device = Device::Densitometer;
     let Some(_) = temperature(pass.densitometer_temperature) else {
-        return Err(Field::DensitometerTemperature);
+        return Err(Fault {
+            device,
+            field: Field::DensitometerTemperature,
+        });
     };
     let Some(_) = pressure(pass.densitometer_pressure) else {
-        return Err(Field::DensitometerPressure);
+        return Err(Fault {
+            device,
+            field: Field::DensitometerPressure,
+        });
     };
     match in_range(pass.density, 60_000, 120_000) {
         Some(density) => Ok(density),
-        None => Err(Field::Density),
+        None => Err(Fault {
+            device,
+            field: Field::Density,
+        }),
+    }
+}
+
+/// The factor that carries the density to the vessel, in steps.
+fn factor<L: Liquid>(liquid: &L, pass: &Record) -> Result<Pair, Fault>
+    ensures { λ r. ⌜ CarryGiven (now (pass .entry)) (L·Liquid .answer (now (liquid .entry)) (question-of (now (pass .entry)))) r ⌝ }
+{
+    match liquid.ask(&Question::of(pass)) {
+        Ok(factor) => Ok(factor),
+        Err(field) => Err(Fault {
+            device: Device::Liquid,
+            field,
+        }),
     }
 }
 
@@ -56,27 +89,9 @@ pub impl<V: Vessel, L: Liquid> Reference for Prover<V, L> as ProverReference {
     }
 
     fn ask(&self, pass: &Record) -> Result<ReferenceMass, Fault> {
-        let volume = match self.vessel.ask(pass) {
-            Ok(volume) => volume,
-            Err(field) => return Err(Fault {
-                device: Device::Vessel,
-                field,
-            }),
-        };
-        let density = match density(pass) {
-            Ok(density) => density,
-            Err(field) => return Err(Fault {
-                device: Device::Densitometer,
-                field,
-            }),
-        };
-        let factor = match self.liquid.ask(&Question::of(pass)) {
-            Ok(factor) => factor,
-            Err(field) => return Err(Fault {
-                device: Device::Liquid,
-                field,
-            }),
-        };
+        let volume = volume(&self.vessel, pass)?;
+        let density = density(pass)?;
+        let factor = factor(&self.liquid, pass)?;
         match ReferenceMass::new(weigh(volume, density, factor)) {
             Some(mass) => Ok(mass),
             None => Err(Fault {

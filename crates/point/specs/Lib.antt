@@ -1,0 +1,5 @@
+pub mod Points
+pub mod Levels
+pub mod Rows
+pub mod Deviations
+pub mod Worked

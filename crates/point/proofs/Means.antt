@@ -17,7 +17,7 @@ use Rattle.exact.specs.Pairs.{Holds, steps, floor, ceiling}
 use Rattle.exact.proofs.Order.{le-refl, le-trans, same-le, same-sym, same-refl, same-trans, nat-positive}
 use Rattle.exact.proofs.Worth.{Worth, worth-itself, worth-nat, worth-whole, worth-add, worth-neg, worth-mul, worth-div, worth-le, le-worth, worth-same, worth-of}
 use Rattle.exact.proofs.Arithmetic.{add-mono, add-same}
-use Rattle.exact.proofs.Quotients.{quotient-least, quotient-most, floor-under, ceil-over, floor-least, ceil-most}
+use Rattle.exact.proofs.Quotients.{quotient-least, quotient-most, floor-under, ceil-over, floor-least, floor-most, ceil-most}
 use Rattle.pass.specs.Kinds.{Kind, K, MF, F}
 use Rattle.point.specs.declared.ends.Ends.{Ends}
 use Rattle.point.specs.Points.{sum, mean}
@@ -137,3 +137,26 @@ mean-holds k es xs l h f t o a b =
 
     go-most : (h n s : ℕ) → s ≤ h * n → Le (steps (pos s)) (mul (steps (pos h)) (nat n))
     go-most h n s i = worth-le (worth-step s) (worth-mul (worth-step h) (worth-nat n)) (omega arith)
+
+-- the sums of n rows' levels, between n times the least and n times the greatest level, and their mean's pair
+pub sums-range : (k : Kind) (es : List Ends) → All (Fits k) es
+    → (length es * 90000000 ≤ sumBy (λ e. raised k (e .low)) es) × (sumBy (λ e. raised k (e .low)) es ≤ sumBy (λ e. raised k (e .high)) es)
+    × (sumBy (λ e. raised k (e .high)) es ≤ length es * 111111112) × (sumBy (λ e. raised k (e .high)) es ≤ sumBy (λ e. raised k (e .low)) es + length es * 300)
+sums-range k [] f = (omega arith, omega arith, omega arith, omega arith)
+sums-range k (e ∷ es) f =
+    let r = level-range k e (f .0) in
+    let t = sums-range k es (f .1) in
+    let l = sumBy-cons (λ e. raised k (e .low)) e es in
+    let h = sumBy-cons (λ e. raised k (e .high)) e es in
+    (omega arith, omega arith, omega arith, omega arith)
+
+pub mean-range : (n s S : ℕ) → 0 < n → n * 90000000 ≤ s → s ≤ S → S ≤ n * 111111112 → S ≤ s + n * 300
+    → ((90000000 ≤ floor s n) × (floor s n ≤ ceiling S n) × (ceiling S n ≤ 111111112)) × (ceiling S n ≤ floor s n + 301)
+mean-range n s S o a b c d =
+    let u = floor-under s n o in
+    let v = ceil-over S n o in
+    let x = floor-least s n 90000000 o (omega arith) in
+    let y = ceil-most S n 111111112 o (omega arith) in
+    let z = ceil-most S n (floor s n + 301) o (omega arith) in
+    let w : floor s n ≤ ceiling S n = floor-most s n (ceiling S n) o (omega arith) in
+    ((x, w, y), z)

@@ -17,7 +17,8 @@ use Rattle.exact.proofs.Quotients.{quotient-least, quotient-most}
 use Rattle.exact.proofs.Figures.{square-mono}
 use Rattle.pass.specs.Kinds.{Kind}
 use Rattle.point.specs.Points.{square, mean, deviation, against, scatter², of-mean², random², student}
-use Rattle.point.proofs.Steps.{squares, worth-step, worth-squares, worth-square, step-positive, root-holds, holds-least, holds-most}
+use Rattle.point.specs.Deviations.{squares, Deviates}
+use Rattle.point.proofs.Steps.{worth-step, worth-squares, worth-square, step-positive, root-holds, holds-least, holds-most}
 
 -- (n − 1)·m² for m between x and X steps
 below-bottom : (P x : ℕ) (m : Fraction) → Le (steps (pos x)) m → Le (mul (nat P) (mul (steps (pos x)) (steps (pos x)))) (mul (nat P) (square m))

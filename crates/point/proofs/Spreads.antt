@@ -21,8 +21,8 @@ use Rattle.point.specs.declared.ends.Ends.{Ends}
 use Rattle.point.specs.Points.{square, spread}
 use Rattle.point.specs.Levels.{level, raised}
 use Rattle.point.specs.Rows.{Held, none, more, Fits}
-use Rattle.point.specs.Deviations.{nearest, farthest}
-use Rattle.point.proofs.Steps.{squares, worth-step, worth-squares, square-least, square-most}
+use Rattle.point.specs.Deviations.{nearest, farthest, nearest², farthest², squares}
+use Rattle.point.proofs.Steps.{worth-step, worth-squares, square-least, square-most}
 use Rattle.point.proofs.Means.{level-range, level-holds}
 
 -- a deviation is that of the levels
@@ -77,22 +77,22 @@ squares-add : (a b : ℕ) → Same (add (squares a) (squares b)) (squares (a + b
 squares-add a b = worth-same (worth-add (worth-squares a) (worth-squares b)) (worth-squares (a + b)) (omega arith)
 
 pub spread-least : (k : Kind) (es : List Ends) (xs : List Fraction) (m : Fraction) (p P : ℕ) → p ≤ P → All (Fits k) es → Held es xs → Holds steps (pos p) (pos P) (number (level k m))
-    → Le (squares (sumBy (λ e. nearest (raised k (e .low)) (raised k (e .high)) p P * nearest (raised k (e .low)) (raised k (e .high)) p P) es)) (spread m xs)
+    → Le (squares (sumBy (nearest² k p P) es)) (spread m xs)
 unfolding spread
 spread-least k _ _ m p P o f none c = worth-le (worth-squares 0) (worth-nat 0) (omega arith)
 spread-least k _ _ m p P o f (more {e} {x} {es} {xs} h t) c =
     let r = level-range k e (f .0) in
-    rw (sumBy-cons (λ e. nearest (raised k (e .low)) (raised k (e .high)) p P * nearest (raised k (e .low)) (raised k (e .high)) p P) e es)
+    rw (sumBy-cons (nearest² k p P) e es)
     (le-trans (same-le (same-sym (squares-add _ _)))
     (add-mono (nearest-square (raised k (e .low)) (raised k (e .high)) p P (level k x) (level k m) (sub x m) (level-sub k x m) o (r .3) (level-holds k (e .low) (e .high) _ _ x (r .0) (r .1) h) c)
     (spread-least k es xs m p P o (f .1) t c)))
 
 pub spread-most : (k : Kind) (es : List Ends) (xs : List Fraction) (m : Fraction) (p P : ℕ) → All (Fits k) es → Held es xs → Holds steps (pos p) (pos P) (number (level k m))
-    → Le (spread m xs) (squares (sumBy (λ e. farthest (raised k (e .low)) (raised k (e .high)) p P * farthest (raised k (e .low)) (raised k (e .high)) p P) es))
+    → Le (spread m xs) (squares (sumBy (farthest² k p P) es))
 unfolding spread
 spread-most k _ _ m p P f none c = worth-le (worth-nat 0) (worth-squares 0) (omega arith)
 spread-most k _ _ m p P f (more {e} {x} {es} {xs} h t) c =
     let r = level-range k e (f .0) in
-    rw (sumBy-cons (λ e. farthest (raised k (e .low)) (raised k (e .high)) p P * farthest (raised k (e .low)) (raised k (e .high)) p P) e es)
+    rw (sumBy-cons (farthest² k p P) e es)
     (le-trans (add-mono (farthest-square (raised k (e .low)) (raised k (e .high)) p P (level k x) (level k m) (sub x m) (level-sub k x m) (level-holds k (e .low) (e .high) _ _ x (r .0) (r .1) h) c)
     (spread-most k es xs m p P (f .1) t c)) (same-le (squares-add _ _)))

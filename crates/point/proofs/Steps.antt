@@ -12,16 +12,13 @@ use Rattle.exact.proofs.Order.{le-refl, le-trans, le-or-lt, lt-le, same-le, sam
 use Rattle.exact.proofs.Worth.{Worth, worth-itself, worth-nat, worth-whole, worth-add, worth-neg, worth-mul, worth-div, worth-le, le-worth, worth-same, worth-of}
 use Rattle.exact.proofs.Arithmetic.{mul-left, mul-mono}
 use Rattle.exact.proofs.Figures.{square-mono}
+use Rattle.point.specs.Deviations.{squares}
 
 pub worth-step : (n : ℕ) → Worth (steps (pos n)) n 0 100000000
 worth-step n = worth-of (worth-div (lit< tt) (worth-nat n) (worth-nat 100000000)) (lit< tt) (omega arith)
 
 pub step-positive : (n : ℕ) → Le (nat 0) (steps (pos n))
 step-positive n = worth-le (worth-nat 0) (worth-step n) (omega arith)
-
--- n hundred-millionths of a hundred-millionth
-abbrev pub squares : ℕ → Fraction
-squares n = div (nat n) (nat 10000000000000000)
 
 pub worth-squares : (n : ℕ) → Worth (squares n) n 0 10000000000000000
 worth-squares n = worth-of (worth-div (lit< tt) (worth-nat n) (worth-nat 10000000000000000)) (lit< tt) (omega arith)

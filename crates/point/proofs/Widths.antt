@@ -13,7 +13,7 @@ use Rattle.pass.specs.Kinds.{Kind}
 use Rattle.point.specs.declared.ends.Ends.{Ends}
 use Rattle.point.specs.Levels.{raised}
 use Rattle.point.specs.Rows.{Fits}
-use Rattle.point.specs.Deviations.{nearest, farthest}
+use Rattle.point.specs.Deviations.{nearest, farthest, nearest², farthest²}
 use Rattle.point.proofs.Naturals.{square-mono, root-lt, root-le, stretched}
 use Rattle.point.proofs.Means.{level-range}
 
@@ -23,13 +23,13 @@ reach a A p P h k = omega arith
 
 -- the inequality of one deviation, added up over the rows
 pub all-stretched : (k s : ℕ) (kind : Kind) (es : List Ends) (p P : ℕ) → P ≤ p + 301 → All (Fits kind) es
-    → (k * s) * sumBy (λ e. farthest (raised kind (e .low)) (raised kind (e .high)) p P * farthest (raised kind (e .low)) (raised kind (e .high)) p P) es
-    ≤ (k * (s + k)) * sumBy (λ e. nearest (raised kind (e .low)) (raised kind (e .high)) p P * nearest (raised kind (e .low)) (raised kind (e .high)) p P) es + (s * (s + k)) * (length es * (601 * 601))
+    → (k * s) * sumBy (farthest² kind p P) es
+    ≤ (k * (s + k)) * sumBy (nearest² kind p P) es + (s * (s + k)) * (length es * (601 * 601))
 all-stretched k s kind [] p P h f = omega arith
 all-stretched k s kind (e ∷ es) p P h f =
     let r = level-range kind e (f .0) in
     let one = stretched k s (nearest (raised kind (e .low)) (raised kind (e .high)) p P) (farthest (raised kind (e .low)) (raised kind (e .high)) p P) 601 (reach (raised kind (e .low)) (raised kind (e .high)) p P (r .5) h) in
-    rw (sumBy-cons (λ e. farthest (raised kind (e .low)) (raised kind (e .high)) p P * farthest (raised kind (e .low)) (raised kind (e .high)) p P) e es, sumBy-cons (λ e. nearest (raised kind (e .low)) (raised kind (e .high)) p P * nearest (raised kind (e .low)) (raised kind (e .high)) p P) e es)
+    rw (sumBy-cons (farthest² kind p P) e es, sumBy-cons (nearest² kind p P) e es)
     (go (k * s) (k * (s + k)) (s * (s + k)) _ _ _ _ (length es) one (all-stretched k s kind es p P h (f .1)))
   where
     go : (u v w a A b B n : ℕ) → u * A ≤ v * a + w * (601 * 601) → u * B ≤ v * b + w * (n * (601 * 601)) → u * (A + B) ≤ v * (a + b) + w * (suc n * (601 * 601))
@@ -43,7 +43,7 @@ farthest-most : (a A p P : ℕ) → a ≤ A → p ≤ P → 90000000 ≤ a → A
 farthest-most a A p P u v h i j k = omega arith
 
 pub nearest-square : (k : Kind) (e : Ends) (p P : ℕ) → p ≤ P → 90000000 ≤ p → P ≤ 111111112 → Fits k e
-    → nearest (raised k (e .low)) (raised k (e .high)) p P * nearest (raised k (e .low)) (raised k (e .high)) p P ≤ 445679049876544
+    → nearest² k p P e ≤ 445679049876544
 nearest-square k e p P v j i f =
     let r = level-range k e f in
     let m = nearest-most (raised k (e .low)) (raised k (e .high)) p P (r .3) v (r .2) (r .4) j i in
@@ -51,7 +51,7 @@ nearest-square k e p P v j i f =
     q
 
 pub farthest-square : (k : Kind) (e : Ends) (p P : ℕ) → p ≤ P → 90000000 ≤ p → P ≤ 111111112 → Fits k e
-    → farthest (raised k (e .low)) (raised k (e .high)) p P * farthest (raised k (e .low)) (raised k (e .high)) p P ≤ 445679049876544
+    → farthest² k p P e ≤ 445679049876544
 farthest-square k e p P v j i f =
     let r = level-range k e f in
     let m = farthest-most (raised k (e .low)) (raised k (e .high)) p P (r .3) v (r .2) (r .4) j i in

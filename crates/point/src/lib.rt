@@ -1,4 +1,10 @@
 // One flow point: the mean of its values, their scatter, the scatter of the mean and the random limit.
+pub mod bounds;
+pub mod deviations;
 pub mod ends;
+pub mod level;
+pub mod mean;
+pub mod roots;
+pub mod statistic;
 pub mod student;
 pub mod worked;

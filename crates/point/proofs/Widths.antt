@@ -5,7 +5,7 @@ use mathlib.Core.List.{List, [], _∷_}
 use mathlib.Core.Logic.{_⊎_, inl, inr}
 use native.Mathlib.Omega.{arith}
 use native.Mathlib.Decide.{decLe}
-use native.Mathlib.Nat.{mul-pos, mul-le-mul, mul-le-mul-left, mul-le-mul-right, le-of-mul-le-mul-left}
+use native.Mathlib.Nat.{mul-pos, mul-le-mul, mul-le-mul-left, mul-le-mul-right, le-of-mul-le-mul-left, le-of-mul-le-mul-right}
 use lib.ListN.{length}
 use Rattle.std.specs.shelf.Lists.{All, sumBy}
 use Rattle.std.proofs.shelf.Sums.{sumBy-cons}
@@ -161,3 +161,36 @@ of-mean-narrow n D E l H x X o p r h d f u v g =
   where
     wide : (s B T : ℕ) → T ≤ ((s + 400) * (s + 400 + 100)) * B → T ≤ ((s + 450) * (s + 450)) * B
     wide s B T i = let j : ((s + 400) * (s + 400 + 100)) * B ≤ ((s + 450) * (s + 450)) * B = mul-le-mul-right B (omega arith) in omega arith
+
+-- the ends stay in order
+nearest-farthest : (a A p P : ℕ) → a ≤ A → p ≤ P → nearest a A p P ≤ farthest a A p P
+nearest-farthest a A p P h k = omega arith
+
+sums-ordered : (k : Kind) (es : List Ends) (p P : ℕ) → p ≤ P → All (Fits k) es → sumBy (nearest² k p P) es ≤ sumBy (farthest² k p P) es
+sums-ordered k [] p P h f = omega arith
+sums-ordered k (e ∷ es) p P h f =
+    let r = level-range k e (f .0) in
+    let one = square-mono _ _ (nearest-farthest (raised k (e .low)) (raised k (e .high)) p P (r .3) h) in
+    let l = sumBy-cons (nearest² k p P) e es in
+    let m = sumBy-cons (farthest² k p P) e es in
+    omega (arith, sums-ordered k es p P h (f .1))
+
+pub spread-ordered : (k : Kind) (es : List Ends) (p P : ℕ) → p ≤ P → All (Fits k) es → (D E : ℕ) → D ≡ sumBy (nearest² k p P) es → E ≡ sumBy (farthest² k p P) es → D ≤ E
+spread-ordered k es p P h f D E d e = omega (arith, sums-ordered k es p P h f)
+
+pub root-ordered : (l H P x X D E : ℕ) → 0 < P → 90000000 ≤ x → x ≤ X → D ≤ E → (l * l) * (P * (X * X)) ≤ D * 10000000000000000 → E * 10000000000000000 ≤ (H * H) * (P * (x * x)) → l ≤ H
+root-ordered l H P x X D E o p h d u v =
+    let a : (H * H) * (P * (x * x)) ≤ (H * H) * (P * (X * X)) = mul-le-mul-left (H * H) (mul-le-mul-left P (square-mono x X h)) in
+    let i : 0 < X = omega arith in
+    let b : 0 < P * (X * X) = mul-pos o (mul-pos i i) in
+    let c : (l * l) * (P * (X * X)) ≤ (H * H) * (P * (X * X)) = omega arith in
+    root-le l H (le-of-mul-le-mul-right c b)
+
+-- ε from S0 between s and S: t·s/1000 rounded down, t·S/1000 rounded up
+pub random-narrow : (t s S : ℕ) → t ≤ 2776 → s ≤ S → S ≤ s + 520 → S ≤ 14000520
+    → ((t * s / 1000 ≤ (t * S + 999) / 1000) × ((t * S + 999) / 1000 ≤ 40000000) × ((t * S + 999) / 1000 ≤ t * s / 1000 + 1450)) × ((t * s / 1000 * 1000 ≤ t * s) × (t * S ≤ (t * S + 999) / 1000 * 1000))
+random-narrow t s S a h k m =
+    let u : t * s ≤ t * S = mul-le-mul-left t h in
+    let v : t * S ≤ t * (s + 520) = mul-le-mul-left t k in
+    let w : t * S ≤ 2776 * 14000520 = mul-le-mul a m in
+    ((omega arith, omega arith, omega arith), (omega arith, omega arith))

@@ -43,6 +43,7 @@ pub(crate) fn spread<V: Statistic>(rows: &[Ends], mean: Level) -> Bounds
     requires fits { ⌜ All (Fits (V·Value .kind)) (now rows) ⌝ }
     ensures low { λ r. ⌜ r .low ≡ sumBy (nearest² (V·Value .kind) (mean .low) (mean .high)) (now (rows .entry)) ⌝ }
     ensures high { λ r. ⌜ r .high ≡ sumBy (farthest² (V·Value .kind) (mean .low) (mean .high)) (now (rows .entry)) ⌝ }
+    ensures ordered { λ r. ⌜ r .low ≤ r .high ⌝ }
     ensures small { λ r. ⌜ r .low ≤ length (now (rows .entry)) * 445679049876544 ⌝ ∗ ⌜ r .high ≤ length (now (rows .entry)) * 445679049876544 ⌝ }
 {
     let mut low: u64 = 0;
@@ -65,6 +66,7 @@ pub(crate) struct Deviations {
     pub(crate) divisor: Level,
     pub(crate) passes: u64,
     ghost counted: { (5 ≤ passes) × (passes ≤ 20) },
+    ghost ordered: { least ≤ most },
     ghost small: { (least ≤ passes * 445679049876544) × (most ≤ passes * 445679049876544) },
 }
 

@@ -2,9 +2,12 @@
 pub mod bounds;
 pub mod deviations;
 pub mod ends;
+pub mod figures;
 pub mod level;
 pub mod mean;
 pub mod roots;
+pub mod scatter;
 pub mod statistic;
 pub mod student;
 pub mod worked;
+pub mod working;

@@ -1,8 +1,8 @@
 // What the statistics of a point ask of a kind of value.
 ghost use mathlib.Core.Path.{_≡_};
-ghost use lib.IntN.{pos, _+ℤ_, natAbs};
+ghost use lib.IntN.{pos, negsuc, _+ℤ_, natAbs};
 ghost use lib.Signed.{_≤ℤ_};
-ghost use Rattle.pass.specs.Kinds.{least};
+ghost use Rattle.pass.specs.Kinds.{least, most};
 ghost use Rattle.point.specs.Levels.{raise, against-end};
 use crate::level::Level;
 use exact::pair::Pair;
@@ -22,6 +22,12 @@ pub trait Statistic: Value {
     /// What brings a value near 1, in steps: nothing for a ratio, 1 for F.
     fn raise() -> i64
         ensures { λ r. ⌜ r ≡ pos (raise (Self·Value .kind)) ⌝ };
+
+    /// Between which steps the values of accepted passes lie.
+    fn range() -> Pair
+        ensures low { λ r. ⌜ r .low ≡ least (Self·Value .kind) ⌝ }
+        ensures high { λ r. ⌜ r .high ≡ most (Self·Value .kind) ⌝ }
+        ensures small { λ r. ⌜ negsuc 9999999 ≤ℤ r .low ⌝ ∗ ⌜ r .high ≤ℤ pos 111111112 ⌝ };
 
     /// What scatter is divided by, in steps: the mean of a ratio; for F, whose mean may be 0, the number 1.
     fn divisor(mean: Pair) -> Level
@@ -49,6 +55,13 @@ pub impl Statistic for PulseFactor as PulseFactorStatistic {
         0
     }
 
+    fn range() -> Pair {
+        Pair {
+            low: 90_000_000,
+            high: 111_111_112,
+        }
+    }
+
     fn divisor(mean: Pair) -> Level {
         by_mean::<PulseFactor>(mean)
     }
@@ -59,6 +72,13 @@ pub impl Statistic for MeterFactor as MeterFactorStatistic {
         0
     }
 
+    fn range() -> Pair {
+        Pair {
+            low: 90_000_000,
+            high: 110_000_000,
+        }
+    }
+
     fn divisor(mean: Pair) -> Level {
         by_mean::<MeterFactor>(mean)
     }
@@ -67,6 +87,13 @@ pub impl Statistic for MeterFactor as MeterFactorStatistic {
 pub impl Statistic for Correction as CorrectionStatistic {
     fn raise() -> i64 {
         100_000_000
+    }
+
+    fn range() -> Pair {
+        Pair {
+            low: -10_000_000,
+            high: 10_000_000,
+        }
     }
 
     fn divisor(_mean: Pair) -> Level {

@@ -5,7 +5,22 @@ ghost use Rattle.point.specs.Points.{student};
 
 /// Student's t at 0.95 for 5 to 20 passes, in thousandths.
 const STUDENT: [u16; 16] = [
-    2776, 2571, 2447, 2365, 2306, 2262, 2228, 2201, 2179, 2160, 2145, 2131, 2120, 2110, 2101, 2093,
+    2776,
+    2571,
+    2447,
+    2365,
+    2306,
+    2262,
+    2228,
+    2201,
+    2179,
+    2160,
+    2145,
+    2131,
+    2120,
+    2110,
+    2101,
+    2093,
 ];
 
 /// Student's t at 0.95 for a number of passes, in thousandths.

@@ -11,6 +11,7 @@ use Rattle.std.proofs.shelf.Sums.{sumBy-more}
 use Rattle.point.specs.declared.ends.Ends.{Ends}
 use Rattle.point.specs.Deviations.{nearest², farthest²}
 use Rattle.point.specs.Rows.{Fits}
+use Rattle.point.proofs.Widths.{spread-ordered}
 use Rattle.point.proofs.deviations.spread.Needs as need
 
 abbrev nil : Ends
@@ -30,9 +31,12 @@ loop-row-again g c =
 pub returns : need.returns
 returns g c =
     let all = take-all (c .loop-row .row-index) (c .args .rows .now) (c .loop-row-test .left) in
+    let low = c .loop-row .inv .0 ∙ ap (sumBy (nearest² (g .V·Value .kind) (c .args .mean .low) (c .args .mean .high))) all in
+    let high = c .loop-row .inv .1 ∙ ap (sumBy (farthest² (g .V·Value .kind) (c .args .mean .low) (c .args .mean .high))) all in
     record {
-      low = c .loop-row .inv .0 ∙ ap (sumBy (nearest² (g .V·Value .kind) (c .args .mean .low) (c .args .mean .high))) all;
-      high = c .loop-row .inv .1 ∙ ap (sumBy (farthest² (g .V·Value .kind) (c .args .mean .low) (c .args .mean .high))) all;
+      low = low;
+      high = high;
+      ordered = spread-ordered (g .V·Value .kind) (c .args .rows .now) (c .args .mean .low) (c .args .mean .high) (c .args .mean .ranged .1) (c .pre .fits) _ _ low high;
       small = (omega arith, omega arith);
     }
 

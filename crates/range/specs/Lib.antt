@@ -1,0 +1,5 @@
+pub mod Ranges
+pub mod Rules
+pub mod Reaches
+pub mod Outcomes
+pub mod Worked

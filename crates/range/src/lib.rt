@@ -1,0 +1,2 @@
+// The range that flow points span: the largest scatter of a mean and random limit, the systematic limit and the error.
+pub mod worked;

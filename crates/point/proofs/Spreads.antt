@@ -37,11 +37,11 @@ level-sub F x m =
     go p n b q l c = omega arith
 
 -- the difference of two levels, between the differences of their ends
-gap-least : (u a P : ℕ) (y m : Fraction) → u + P ≤ a → Le (steps (pos a)) y → Le m (steps (pos P)) → Le (steps (pos u)) (sub y m)
+pub gap-least : (u a P : ℕ) (y m : Fraction) → u + P ≤ a → Le (steps (pos a)) y → Le m (steps (pos P)) → Le (steps (pos u)) (sub y m)
 gap-least u a P y m i h k =
     le-trans (worth-le (worth-step u) (worth-add (worth-step a) (worth-neg (worth-step P))) (omega arith)) (sub-mono h k)
 
-gap-most : (u A p : ℕ) (y m : Fraction) → A ≤ u + p → Le y (steps (pos A)) → Le (steps (pos p)) m → Le (sub y m) (steps (pos u))
+pub gap-most : (u A p : ℕ) (y m : Fraction) → A ≤ u + p → Le y (steps (pos A)) → Le (steps (pos p)) m → Le (sub y m) (steps (pos u))
 gap-most u A p y m i h k =
     le-trans (sub-mono h k) (worth-le (worth-add (worth-step A) (worth-neg (worth-step p))) (worth-step u) (omega arith))
 

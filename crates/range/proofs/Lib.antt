@@ -1,0 +1,5 @@
+pub mod Greaters
+pub mod Gaps
+pub mod Limits
+pub mod Edges
+pub mod Errors

@@ -1,2 +1,3 @@
 // The range that flow points span: the largest scatter of a mean and random limit, the systematic limit and the error.
+pub mod left;
 pub mod worked;

@@ -1,0 +1,94 @@
+-- The error's pair: by one rule, and over the rules that are left.
+use Prim.Native.Nat.{ℕ, _+_, _*_, _<_, _≤_, max, min}
+use mathlib.Core.Path.{_≡_, refl, sym, subst}
+use mathlib.Core.Logic.{_⊎_, inl, inr}
+use native.Mathlib.Omega.{arith}
+use lib.Dec.{lit<}
+use lib.IntN.{ℤ, pos, _+ℤ_}
+use lib.Signed.{_≤ℤ_}
+use Rattle.std.proofs.shelf.Signed.{ints}
+use Rattle.std.proofs.shelf.Tests.{cases-lt}
+use Rattle.exact.specs.Fractions.{Fraction, Le, nat, add, sub, mul}
+use Rattle.exact.specs.Figures.{Figure, root, times, plus, AtMost, AtLeast}
+use Rattle.exact.specs.Pairs.{Holds, steps}
+use Rattle.exact.proofs.Order.{le-refl, le-trans}
+use Rattle.exact.proofs.Worth.{Worth, worth-nat, worth-add, worth-neg, worth-mul, worth-div, worth-le, worth-of}
+use Rattle.exact.proofs.Figures.{lower, higher}
+use Rattle.point.proofs.Steps.{worth-step}
+use Rattle.range.specs.Rules.{Rule, systematic, random, mixed, part, part-positive, rule, error-by, error, NearUpper, NearLower}
+use Rattle.range.specs.Outcomes.{NearChange, May, Spans, ErrorHolds}
+use Rattle.range.proofs.Edges.{worth-part}
+
+-- 0.81·(Θ + ε): Θ lies from t to T, ε from e to E
+pub mixed-holds : (t T e E l h : ℕ) (θ² ε² : Fraction) → l * 100 ≤ 81 * (t + e) → 81 * (T + E) ≤ h * 100 → Holds steps (pos t) (pos T) (root θ²) → Holds steps (pos e) (pos E) (root ε²) → Holds steps (pos l) (pos h) (error-by mixed θ² ε²)
+mixed-holds t T e E l h θ² ε² i j p q = record {
+  least = (add (steps (pos t)) (steps (pos e)), (steps (pos t), steps (pos e), p .least, q .least, le-refl (add (steps (pos t)) (steps (pos e)))),
+      worth-le (worth-step l) (worth-mul (worth-add (worth-step t) (worth-step e)) (worth-part 81 100 (lit< tt))) (omega arith));
+  most = (add (steps (pos T)) (steps (pos E)), (steps (pos T), steps (pos E), p .most, q .most, le-refl (add (steps (pos T)) (steps (pos E)))),
+      worth-le (worth-mul (worth-add (worth-step T) (worth-step E)) (worth-part 81 100 (lit< tt))) (worth-step h) (omega arith));
+}
+
+step-mono : {a b : ℕ} → a ≤ b → Le (steps (pos a)) (steps (pos b))
+step-mono {a} {b} h = worth-le (worth-step a) (worth-step b) (omega arith)
+
+-- a wider pair holds what a pair inside it holds
+pub holds-wider : (f : Figure) (l h low high : ℕ) → low ≤ l → h ≤ high → Holds steps (pos l) (pos h) f → Holds steps (pos low) (pos high) f
+holds-wider f l h low high a b k = record { least = lower f _ _ (step-mono a) (k .least); most = higher f _ _ (step-mono b) (k .most) }
+
+-- the exact error is the one by the exact rule
+pub holds-by : (θ² s² ε² : Fraction) (r : Rule) (low high : ℤ) → rule θ² s² ≡ r → Holds steps low high (error-by r θ² ε²) → Holds steps low high (error θ² s² ε²)
+holds-by θ² s² ε² r low high e h = subst (λ (q : Rule). Holds steps low high (error-by q θ² ε²)) (sym e) h
+
+-- The lower end of the pair lies at most 1,450 below the exact error by a rule that may give it, and the upper end at most as much above one.
+pub record Lowest (θ² s² ε² : Fraction) (low : ℕ) : Type 0 where
+  pub by : Rule
+  pub may : May θ² s² by
+  pub top : AtLeast (steps (pos (low + 1450))) (error-by by θ² ε²)
+
+pub record Highest (θ² s² ε² : Fraction) (high : ℕ) : Type 0 where
+  pub by : Rule
+  pub may : May θ² s² by
+  pub end : ℕ
+  pub near : high ≤ end + 1450
+  pub floor : AtMost (steps (pos end)) (error-by by θ² ε²)
+
+pub lowest : (θ² s² ε² : Fraction) (r : Rule) (l h : ℕ) → May θ² s² r → h ≤ l + 1450 → Holds steps (pos l) (pos h) (error-by r θ² ε²) → Lowest θ² s² ε² l
+lowest θ² s² ε² r l h m w k = record { by = r; may = m; top = higher (error-by r θ² ε²) _ _ (step-mono w) (k .most) }
+
+pub highest : (θ² s² ε² : Fraction) (r : Rule) (l h : ℕ) → May θ² s² r → h ≤ l + 1450 → Holds steps (pos l) (pos h) (error-by r θ² ε²) → Highest θ² s² ε² h
+highest θ² s² ε² r l h m w k = record { by = r; may = m; end = l; near = w; floor = k .least }
+
+pub lowest-min : {θ² s² ε² : Fraction} {a b : ℕ} → Lowest θ² s² ε² a → Lowest θ² s² ε² b → Lowest θ² s² ε² (min a b)
+lowest-min {θ²} {s²} {ε²} {a} {b} h k = elim (cases-lt a b) [
+  | inl l ↦ (let e : min a b ≡ a = omega arith in subst (Lowest θ² s² ε²) (sym e) h)
+  | inr l ↦ (let e : min a b ≡ b = omega arith in subst (Lowest θ² s² ε²) (sym e) k)
+]
+
+pub highest-max : {θ² s² ε² : Fraction} {a b : ℕ} → Highest θ² s² ε² a → Highest θ² s² ε² b → Highest θ² s² ε² (max a b)
+highest-max {θ²} {s²} {ε²} {a} {b} h k = elim (cases-lt a b) [
+  | inl l ↦ (let e : max a b ≡ b = omega arith in subst (Highest θ² s² ε²) (sym e) k)
+  | inr l ↦ (let e : max a b ≡ a = omega arith in subst (Highest θ² s² ε²) (sym e) h)
+]
+
+reached : (θ² s² ε² : Fraction) (low high : ℕ) → Lowest θ² s² ε² low → Highest θ² s² ε² high
+    → (a : Rule) × (b : Rule) × May θ² s² a × May θ² s² b × Spans (pos low) (pos high) (error-by a θ² ε²) (error-by b θ² ε²)
+reached θ² s² ε² low high l h =
+    (l .by, h .by, l .may, h .may, (steps (pos (low + 1450)), l .top,
+    lower (error-by (h .by) θ² ε²) _ (steps (pos (h .end))) (worth-le (worth-add (worth-step (low + 1450)) (worth-add (worth-step high) (worth-neg (worth-add (worth-step low) (worth-step 2900))))) (worth-step (h .end)) (go (h .end) (h .near))) (h .floor)))
+  where
+    go : (e : ℕ) → high ≤ e + 1450
+        → ((low + 1450) * (100000000 * (100000000 * 100000000)) + (high * (100000000 * 100000000) + (0 * 100000000 + 0 * 100000000) * 100000000) * 100000000) * 100000000 + 0 * (100000000 * (100000000 * (100000000 * 100000000)))
+        ≤ e * (100000000 * (100000000 * (100000000 * 100000000))) + (0 * (100000000 * (100000000 * 100000000)) + (0 * (100000000 * 100000000) + (low * 100000000 + 2900 * 100000000) * 100000000) * 100000000) * 100000000
+    go e n = omega arith
+
+-- one rule is left
+pub error-one : (θ² s² ε² : Fraction) (r : Rule) (l h : ℕ) → rule θ² s² ≡ r → h ≤ l + 1450 → Holds steps (pos l) (pos h) (error-by r θ² ε²) → ErrorHolds θ² s² ε² (pos l) (pos h)
+error-one θ² s² ε² r l h e w k = record {
+  holds = holds-by θ² s² ε² r (pos l) (pos h) e k;
+  narrow = λ _. omega (arith, ints);
+  reach = reached θ² s² ε² l h (lowest θ² s² ε² r l h (inl e) w k) (highest θ² s² ε² r l h (inl e) w k);
+}
+
+-- several are left, so that a change is near
+pub error-several : (θ² s² ε² : Fraction) (low high : ℕ) → NearChange θ² s² → Holds steps (pos low) (pos high) (error θ² s² ε²) → Lowest θ² s² ε² low → Highest θ² s² ε² high → ErrorHolds θ² s² ε² (pos low) (pos high)
+error-several θ² s² ε² low high n k l h = record { holds = k; narrow = λ f. absurd (f n); reach = reached θ² s² ε² low high l h }

@@ -89,3 +89,14 @@ half-gap-narrow n f b B i j k o h m =
   where
     go : (q : ℕ) → q ≤ 5900000 → 100000000 * n < q * B + B → (q + 1) * B ≤ (q + 1) * (b + 1204) → 100000000 * f ≤ (q + 280) * b
     go q few near turn = omega arith
+
+-- both, for levels: at least 90,000,000 steps, at most 301 wide
+pub half-gap-pair : (a A p P n f : ℕ) (y z : Fraction) → 90000000 ≤ a → 90000000 ≤ p → a ≤ A → p ≤ P → n ≡ nearest a A p P → f ≡ farthest a A p P
+    → Holds steps (pos a) (pos A) (number y) → Holds steps (pos p) (pos P) (number z)
+    → Holds steps (pos (floor (100000000 * n) (2 * (A + P)))) (pos (ceiling (100000000 * f) (2 * (a + p)))) (number (half-gap y z))
+half-gap-pair a A p P n f y z o q i j d e h k =
+    half-gap-holds a A p P (floor (100000000 * n) (2 * (A + P))) (ceiling (100000000 * f) (2 * (a + p))) y z (omega arith) i j
+    (rw (← d) (floor-under (100000000 * n) (2 * (A + P)) (omega arith) .0)) (rw (← e) (ceil-over (100000000 * f) (2 * (a + p)) (omega arith) .0)) h k
+
+pub distance-narrow : (a A p P : ℕ) → a ≤ A → p ≤ P → A ≤ a + 301 → P ≤ p + 301 → (nearest a A p P ≤ farthest a A p P) × (farthest a A p P ≤ nearest a A p P + 602)
+distance-narrow a A p P i j h k = (omega arith, omega arith)

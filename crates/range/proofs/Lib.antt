@@ -3,3 +3,4 @@ pub mod Gaps
 pub mod Limits
 pub mod Edges
 pub mod Errors
+pub mod Together

@@ -1,0 +1,78 @@
+// Points taken together, one by one.
+ghost use Prim.Native.Nat.{ℕ, _≤_, max};
+ghost use mathlib.Core.List.{List, [], _∷_};
+ghost use mathlib.Core.Path.{_≡_};
+ghost use lib.IntN.{pos};
+ghost use lib.Signed.{_≤ℤ_};
+ghost use lib.ListN.{length};
+ghost use Rattle.exact.specs.Fractions.{Fraction};
+ghost use Rattle.pass.specs.Kinds.{Kind};
+ghost use Rattle.point.specs.Outcomes.{PointHolds};
+ghost use Rattle.range.specs.Reaches.{PointsHold, Reaches, Sound};
+use crate::gap::half_gap;
+use crate::reach::Reach;
+use exact::pair::Pair;
+use point::bounds::Bounds;
+use point::figures::Point;
+use point::level::Level;
+use point::scatter::natural;
+
+/// A pair that is not negative, as two ends.
+fn unpaired(pair: Pair) -> Bounds
+    requires { ⌜ pos 0 ≤ℤ pair .low ⌝ }
+    ensures low { λ r. ⌜ pair .low ≡ pos (r .low) ⌝ }
+    ensures high { λ r. ⌜ pair .high ≡ pos (r .high) ⌝ }
+{
+    Bounds {
+        low: natural(pair.low),
+        high: natural(pair.high),
+    }
+}
+
+/// The larger of two figures, end by end.
+fn larger(one: Bounds, other: Bounds) -> Bounds
+    ensures low { λ r. ⌜ r .low ≡ max (one .low) (other .low) ⌝ }
+    ensures high { λ r. ⌜ r .high ≡ max (one .high) (other .high) ⌝ }
+{
+    Bounds {
+        low: one.low.max(other.low),
+        high: one.high.max(other.high),
+    }
+}
+
+/// The reach of one point.
+pub fn first(point: &Point) -> Reach
+    ensures sound { λ r. ⌜ Sound r ⌝ }
+    ensures holds { λ r. ⌜ ((k : Kind) (xs : List Fraction) → PointHolds k xs (now (point .entry)) → Reaches k xs [] r) ⌝ }
+{
+    Reach {
+        level: Bounds {
+            low: point.level.low,
+            high: point.level.high,
+        },
+        of_mean: unpaired(point.of_mean),
+        random: unpaired(point.random),
+        neighbours: Bounds { low: 0, high: 0 },
+    }
+}
+
+/// The reach of a point and those that follow it.
+pub fn further(point: &Point, reach: Reach) -> Reach
+    requires { ⌜ Sound reach ⌝ }
+    ensures sound { λ r. ⌜ Sound r ⌝ }
+    ensures holds { λ r. ⌜ ((k : Kind) (xs ys : List Fraction) (yss : List (List Fraction)) → PointHolds k xs (now (point .entry)) → Reaches k ys yss reach → Reaches k xs (ys ∷ yss) r) ⌝ }
+{
+    let next = Level {
+        low: reach.level.low,
+        high: reach.level.high,
+    };
+    Reach {
+        level: Bounds {
+            low: point.level.low,
+            high: point.level.high,
+        },
+        of_mean: larger(unpaired(point.of_mean), reach.of_mean),
+        random: larger(unpaired(point.random), reach.random),
+        neighbours: larger(half_gap(point.level, next), reach.neighbours),
+    }
+}

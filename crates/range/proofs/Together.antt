@@ -1,15 +1,22 @@
 -- Points taken together: the larger of each figure.
-use Prim.Native.Nat.{ℕ, _+_, _≤_, max}
-use mathlib.Core.Path.{_≡_, refl, sym, subst}
+use Prim.Native.Nat.{ℕ, _+_, _-_, _<_, _≤_, max}
+use mathlib.Core.List.{List, [], _∷_}
+use mathlib.Core.Path.{_≡_, refl, sym, ap, subst, _∙_}
 use native.Mathlib.Omega.{arith}
 use lib.IntN.{ℤ, pos}
+use lib.ListN.{length, getD, drop}
+use Rattle.std.proofs.shelf.Lists.{drop-more, drop-all}
 use Rattle.exact.specs.Fractions.{Fraction, nat}
 use Rattle.exact.specs.Figures.{Figure, number, root}
 use Rattle.exact.specs.Pairs.{Holds, steps}
 use Rattle.exact.proofs.Pairs.{holds-ends}
+use Rattle.pass.specs.Kinds.{Kind}
+use Rattle.point.specs.Outcomes.{PointHolds}
 use Rattle.point.specs.declared.bounds.Bounds.{Bounds}
+use Rattle.point.specs.declared.figures.Point.{Point}
+use Rattle.range.specs.declared.reach.Reach.{Reach}
 use Rattle.range.specs.Ranges.{greater}
-use Rattle.range.specs.Reaches.{Narrow}
+use Rattle.range.specs.Reaches.{Narrow, PointsHold, none, more, Reaches}
 use Rattle.range.proofs.Greaters.{holds-greater-root, holds-greater, holds-nought-root}
 
 -- ends that are natural numbers under other names
@@ -37,3 +44,48 @@ larger-narrow w m r a b d e h k =
     let o = k .near in
     let p = k .small in
     record { ordered = omega arith; near = omega arith; small = omega arith }
+
+-- one point and the rest, taken apart
+split : {k : Kind} {p : Point} {xs : List Fraction} {ps : List Point} {xss : List (List Fraction)} → PointsHold k (p ∷ ps) (xs ∷ xss) → PointHolds k xs p × PointsHold k ps xss
+split (more h t) = (h, t)
+
+only : {k : Kind} {xss : List (List Fraction)} → PointsHold k [] xss → xss ≡ []
+only none = refl
+
+some : {k : Kind} {p : Point} {ps : List Point} {xss : List (List Fraction)} → PointsHold k (p ∷ ps) xss → (ys : List Fraction) × (yss : List (List Fraction)) × (xss ≡ ys ∷ yss)
+some (more {xs = ys} {xss = yss} h t) = (ys, yss, refl)
+
+-- the last point alone
+pub last-reach : (ps : List Point) (p : Point) (r : Reach) → 1 ≤ length ps → p ≡ getD ps (length ps - 1) p → ((k : Kind) (xs : List Fraction) → PointHolds k xs p → Reaches k xs [] r)
+    → (k : Kind) (xs : List Fraction) (xss : List (List Fraction)) → PointsHold k (drop (length ps - 1) ps) (xs ∷ xss) → Reaches k xs xss r
+last-reach ps p r o e f k xs xss h =
+    let i : length ps - 1 < length ps = omega arith in
+    let d : drop (length ps - 1) ps ≡ p ∷ drop (length ps - 1 + 1) ps = drop-more ps (length ps - 1) p i ∙ ap (λ (q : Point). q ∷ drop (length ps - 1 + 1) ps) (sym e) in
+    let n : length ps ≤ length ps - 1 + 1 = omega arith in
+    let z : drop (length ps - 1 + 1) ps ≡ [] = drop-all (length ps - 1 + 1) ps n in
+    let s = split (subst (λ (qs : List Point). PointsHold k qs (xs ∷ xss)) (d ∙ ap (λ (qs : List Point). p ∷ qs) z) h) in
+    subst (λ (yss : List (List Fraction)). Reaches k xs yss r) (sym (only (s .1))) (f k xs (s .0))
+
+-- one point more before the others
+pub further-reach : (ps : List Point) (i : ℕ) (p : Point) (r t : Reach) → 0 < i → i < length ps → p ≡ getD ps (i - 1) p
+    → ((k : Kind) (xs : List Fraction) (xss : List (List Fraction)) → PointsHold k (drop i ps) (xs ∷ xss) → Reaches k xs xss r)
+    → ((k : Kind) (xs ys : List Fraction) (yss : List (List Fraction)) → PointHolds k xs p → Reaches k ys yss r → Reaches k xs (ys ∷ yss) t)
+    → (k : Kind) (xs : List Fraction) (xss : List (List Fraction)) → PointsHold k (drop (i - 1) ps) (xs ∷ xss) → Reaches k xs xss t
+further-reach ps i p r t o l e f g k xs xss h =
+    let m : i - 1 < length ps = omega arith in
+    let n : i - 1 + 1 ≡ i = omega arith in
+    let d : drop (i - 1) ps ≡ p ∷ drop i ps = drop-more ps (i - 1) p m ∙ ap (λ (q : Point). q ∷ drop (i - 1 + 1) ps) (sym e) ∙ ap (λ (j : ℕ). p ∷ drop j ps) n in
+    let s = split (subst (λ (qs : List Point). PointsHold k qs (xs ∷ xss)) d h) in
+    let z = some (subst (λ (qs : List Point). PointsHold k qs xss) (drop-more ps i p l) (s .1)) in
+    let held : PointsHold k (drop i ps) (z .0 ∷ z .1) = subst (λ (yss : List (List Fraction)). PointsHold k (drop i ps) yss) (z .2) (s .1) in
+    subst (λ (yss : List (List Fraction)). Reaches k xs yss t) (sym (z .2)) (g k xs (z .0) (z .1) (s .0) (f k (z .0) (z .1) held))
+
+-- from the first point on
+pub from-first : (ps : List Point) (i : ℕ) (r : Reach) → i ≡ 0 → ((k : Kind) (xs : List Fraction) (xss : List (List Fraction)) → PointsHold k (drop i ps) (xs ∷ xss) → Reaches k xs xss r)
+    → (k : Kind) (xs : List Fraction) (xss : List (List Fraction)) → PointsHold k ps (xs ∷ xss) → Reaches k xs xss r
+from-first ps i r e f k xs xss h = f k xs xss (subst (λ (j : ℕ). PointsHold k (drop j ps) (xs ∷ xss)) (sym e) h)
+
+-- two points at least give a first one
+pub begun : (k : Kind) (ps : List Point) (xss : List (List Fraction)) → 1 ≤ length ps → PointsHold k ps xss → (ys : List Fraction) × (yss : List (List Fraction)) × (xss ≡ ys ∷ yss)
+begun k [] xss o h = absurd (omega arith)
+begun k (p ∷ ps) xss o h = some h

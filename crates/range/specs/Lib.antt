@@ -2,4 +2,5 @@ pub mod Ranges
 pub mod Rules
 pub mod Reaches
 pub mod Outcomes
+pub mod Judgements
 pub mod Worked

@@ -194,3 +194,6 @@ random-narrow t s S a h k m =
     let v : t * S ≤ t * (s + 520) = mul-le-mul-left t k in
     let w : t * S ≤ 2776 * 14000520 = mul-le-mul a m in
     ((omega arith, omega arith, omega arith), (omega arith, omega arith))
+
+pub random-most : (t S : ℕ) → t ≤ 2776 → S ≤ 14000520 → t * S ≤ 38865443520
+random-most t S a m = let w : t * S ≤ 2776 * 14000520 = mul-le-mul a m in w

@@ -6,6 +6,7 @@ pub mod figures;
 pub mod level;
 pub mod mean;
 pub mod roots;
+pub mod rounding;
 pub mod scatter;
 pub mod statistic;
 pub mod student;

@@ -14,6 +14,8 @@ use crate::bounds::Bounds;
 use crate::deviations::Deviations;
 use crate::roots::root_ceil;
 use crate::roots::root_floor;
+use crate::rounding::rounded_down;
+use crate::rounding::rounded_up;
 use crate::student::quantile;
 use exact::pair::Pair;
 
@@ -101,7 +103,7 @@ pub(crate) fn random_limit(passes: usize, of_mean: Pair) -> Pair
 {
     let t = quantile(passes) as u64;
     paired(
-        t * natural(of_mean.low) / 1_000,
-        (t * natural(of_mean.high) + 999) / 1_000,
+        rounded_down(t * natural(of_mean.low), 1_000),
+        rounded_up(t * natural(of_mean.high), 1_000),
     )
 }

@@ -17,7 +17,10 @@ use Rattle.exact.proofs.Quotients.{quotient-least, quotient-most, floor-under, 
 use Rattle.point.specs.Deviations.{nearest, farthest}
 use Rattle.point.proofs.Steps.{worth-step, step-positive}
 use Rattle.point.proofs.Spreads.{gap-least, gap-most}
+use Rattle.point.specs.declared.bounds.Bounds.{Bounds}
+use Rattle.range.specs.Gaps.{half-gap-low, half-gap-high}
 use Rattle.range.specs.Ranges.{greater, half-gap}
+use Rattle.range.specs.Reaches.{Narrow}
 use Rattle.range.proofs.Greaters.{greater-left, greater-right, greater-most}
 
 -- the gap itself, between the nearest and the farthest that the ends allow
@@ -91,12 +94,21 @@ half-gap-narrow n f b B i j k o h m =
     go q few near turn = omega arith
 
 -- both, for levels: at least 90,000,000 steps, at most 301 wide
-pub half-gap-pair : (a A p P n f : ℕ) (y z : Fraction) → 90000000 ≤ a → 90000000 ≤ p → a ≤ A → p ≤ P → n ≡ nearest a A p P → f ≡ farthest a A p P
-    → Holds steps (pos a) (pos A) (number y) → Holds steps (pos p) (pos P) (number z)
-    → Holds steps (pos (floor (100000000 * n) (2 * (A + P)))) (pos (ceiling (100000000 * f) (2 * (a + p)))) (number (half-gap y z))
-half-gap-pair a A p P n f y z o q i j d e h k =
-    half-gap-holds a A p P (floor (100000000 * n) (2 * (A + P))) (ceiling (100000000 * f) (2 * (a + p))) y z (omega arith) i j
-    (rw (← d) (floor-under (100000000 * n) (2 * (A + P)) (omega arith) .0)) (rw (← e) (ceil-over (100000000 * f) (2 * (a + p)) (omega arith) .0)) h k
+pub level-gap-holds : (a A p P : ℕ) (y z : Fraction) → 90000000 ≤ a → 90000000 ≤ p → a ≤ A → p ≤ P
+    → Holds steps (pos a) (pos A) (number y) → Holds steps (pos p) (pos P) (number z) → Holds steps (pos (half-gap-low a A p P)) (pos (half-gap-high a A p P)) (number (half-gap y z))
+level-gap-holds a A p P y z o q i j h k =
+    half-gap-holds a A p P (half-gap-low a A p P) (half-gap-high a A p P) y z (omega arith) i j
+    (floor-under (100000000 * nearest a A p P) (2 * (A + P)) (omega arith) .0) (ceil-over (100000000 * farthest a A p P) (2 * (a + p)) (omega arith) .0) h k
 
-pub distance-narrow : (a A p P : ℕ) → a ≤ A → p ≤ P → A ≤ a + 301 → P ≤ p + 301 → (nearest a A p P ≤ farthest a A p P) × (farthest a A p P ≤ nearest a A p P + 602)
+distance-narrow : (a A p P : ℕ) → a ≤ A → p ≤ P → A ≤ a + 301 → P ≤ p + 301 → (nearest a A p P ≤ farthest a A p P) × (farthest a A p P ≤ nearest a A p P + 602)
 distance-narrow a A p P i j h k = (omega arith, omega arith)
+
+distance-most : (a A p P : ℕ) → 90000000 ≤ a → 90000000 ≤ p → A ≤ 111111112 → P ≤ 111111112 → farthest a A p P ≤ 21111112
+distance-most a A p P i j h k = omega arith
+
+pub level-gap-narrow : (a A p P : ℕ) → 90000000 ≤ a → 90000000 ≤ p → a ≤ A → p ≤ P → A ≤ a + 301 → P ≤ p + 301 → A ≤ 111111112 → P ≤ 111111112
+    → Narrow 280 6000000 (record { low = half-gap-low a A p P; high = half-gap-high a A p P })
+level-gap-narrow a A p P o q i j h k m n =
+    let d = distance-narrow a A p P i j h k in
+    let r = half-gap-narrow (nearest a A p P) (farthest a A p P) (2 * (a + p)) (2 * (A + P)) (d .0) (d .1) (distance-most a A p P o q m n) (omega arith) (omega arith) (omega arith) in
+    record { ordered = r .0; near = r .1; small = r .2 }

@@ -1,4 +1,5 @@
 pub mod Ranges
+pub mod Gaps
 pub mod Rules
 pub mod Reaches
 pub mod Outcomes

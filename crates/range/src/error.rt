@@ -10,6 +10,8 @@ ghost use Rattle.range.specs.Reaches.{Narrow};
 ghost use Rattle.range.specs.Rules.{mixed as by-both, error-by};
 use crate::left::Left;
 use point::bounds::Bounds;
+use point::rounding::rounded_down;
+use point::rounding::rounded_up;
 
 /// 0.81·(Θ + ε), in steps.
 fn mixed(systematic: Bounds, random: Bounds) -> Bounds
@@ -19,8 +21,8 @@ fn mixed(systematic: Bounds, random: Bounds) -> Bounds
     ensures narrow { λ r. ⌜ Narrow 1450 100000000 r ⌝ }
 {
     Bounds {
-        low: 81 * (systematic.low + random.low) / 100,
-        high: (81 * (systematic.high + random.high) + 99) / 100,
+        low: rounded_down(81 * (systematic.low + random.low), 100),
+        high: rounded_up(81 * (systematic.high + random.high), 100),
     }
 }
 

@@ -2,12 +2,13 @@
 ghost use Prim.Native.Nat.{ℕ, _≤_, max};
 ghost use mathlib.Core.List.{List, [], _∷_};
 ghost use mathlib.Core.Path.{_≡_};
-ghost use lib.IntN.{pos};
+ghost use lib.IntN.{pos, natAbs};
 ghost use lib.Signed.{_≤ℤ_};
 ghost use lib.ListN.{length};
 ghost use Rattle.exact.specs.Fractions.{Fraction};
 ghost use Rattle.pass.specs.Kinds.{Kind};
 ghost use Rattle.point.specs.Outcomes.{PointHolds};
+ghost use Rattle.range.specs.Gaps.{half-gap-low, half-gap-high};
 ghost use Rattle.range.specs.Reaches.{PointsHold, Reaches, Sound};
 use crate::gap::half_gap;
 use crate::reach::Reach;
@@ -20,8 +21,8 @@ use point::scatter::natural;
 /// A pair that is not negative, as two ends.
 fn unpaired(pair: Pair) -> Bounds
     requires { ⌜ pos 0 ≤ℤ pair .low ⌝ }
-    ensures low { λ r. ⌜ pair .low ≡ pos (r .low) ⌝ }
-    ensures high { λ r. ⌜ pair .high ≡ pos (r .high) ⌝ }
+    ensures low { λ r. ⌜ r .low ≡ natAbs (pair .low) ⌝ }
+    ensures high { λ r. ⌜ r .high ≡ natAbs (pair .high) ⌝ }
 {
     Bounds {
         low: natural(pair.low),
@@ -56,11 +57,13 @@ pub fn first(point: &Point) -> Reach
     }
 }
 
-/// The reach of a point and those that follow it.
-pub fn further(point: &Point, reach: Reach) -> Reach
+/// A point put before those that follow it: the larger of each figure, and the half-gap to the next.
+fn joined(point: &Point, reach: Reach) -> Reach
     requires { ⌜ Sound reach ⌝ }
-    ensures sound { λ r. ⌜ Sound r ⌝ }
-    ensures holds { λ r. ⌜ ((k : Kind) (xs ys : List Fraction) (yss : List (List Fraction)) → PointHolds k xs (now (point .entry)) → Reaches k ys yss reach → Reaches k xs (ys ∷ yss) r) ⌝ }
+    ensures level { λ r. ⌜ r .level .low ≡ now (point .entry) .level .low ⌝ ∗ ⌜ r .level .high ≡ now (point .entry) .level .high ⌝ }
+    ensures of_mean { λ r. ⌜ r .«of_mean» .low ≡ max (natAbs (now (point .entry) .«of_mean» .low)) (reach .«of_mean» .low) ⌝ ∗ ⌜ r .«of_mean» .high ≡ max (natAbs (now (point .entry) .«of_mean» .high)) (reach .«of_mean» .high) ⌝ }
+    ensures random { λ r. ⌜ r .random .low ≡ max (natAbs (now (point .entry) .random .low)) (reach .random .low) ⌝ ∗ ⌜ r .random .high ≡ max (natAbs (now (point .entry) .random .high)) (reach .random .high) ⌝ }
+    ensures neighbours { λ r. ⌜ r .neighbours .low ≡ max (half-gap-low (now (point .entry) .level .low) (now (point .entry) .level .high) (reach .level .low) (reach .level .high)) (reach .neighbours .low) ⌝ ∗ ⌜ r .neighbours .high ≡ max (half-gap-high (now (point .entry) .level .low) (now (point .entry) .level .high) (reach .level .low) (reach .level .high)) (reach .neighbours .high) ⌝ }
 {
     let next = Level {
         low: reach.level.low,
@@ -75,4 +78,13 @@ pub fn further(point: &Point, reach: Reach) -> Reach
         random: larger(unpaired(point.random), reach.random),
         neighbours: larger(half_gap(point.level, next), reach.neighbours),
     }
+}
+
+/// The reach of a point and those that follow it.
+pub fn further(point: &Point, reach: Reach) -> Reach
+    requires { ⌜ Sound reach ⌝ }
+    ensures sound { λ r. ⌜ Sound r ⌝ }
+    ensures holds { λ r. ⌜ ((k : Kind) (xs ys : List Fraction) (yss : List (List Fraction)) → PointHolds k xs (now (point .entry)) → Reaches k ys yss reach → Reaches k xs (ys ∷ yss) r) ⌝ }
+{
+    joined(point, reach)
 }

@@ -1,9 +1,8 @@
-use mathlib.Core.Path.{sym}
 use native.Mathlib.Omega.{arith}
+use mathlib.Core.Path.{sym}
 use Rattle.std.proofs.shelf.Signed.{ints}
-use Rattle.exact.proofs.Pairs.{holds-ends}
 use Rattle.range.proofs.Greaters.{holds-nought}
-use Rattle.range.proofs.Together.{first-root}
+use Rattle.range.proofs.Together.{first-root, holds-named, holds-sizes}
 use Rattle.range.proofs.reaching.first.Needs as need
 
 pub returns : need.returns
@@ -21,8 +20,8 @@ returns c =
       };
       holds = λ k xs h. record {
         level = h .level;
-        of-mean = first-root _ _ (holds-ends (sym (s .low)) (sym (s .high)) (h .of-mean));
-        random = first-root _ _ (holds-ends (sym (e .low)) (sym (e .high)) (h .random));
+        of-mean = first-root _ _ (holds-named _ _ _ _ (s .low) (s .high) (holds-sizes _ _ (p .least .1) (p .«of_mean» .ordered) (h .of-mean)));
+        random = first-root _ _ (holds-named _ _ _ _ (e .low) (e .high) (holds-sizes _ _ (p .least .2) (p .random .ordered) (h .random)));
         neighbours = holds-nought;
       };
     }

@@ -23,11 +23,19 @@ const STUDENT: [u16; 16] = [
     2093,
 ];
 
+/// The table's entry for a number of passes.
+fn tabled(passes: usize) -> u16
+    requires { ⌜ 5 ≤ passes ⌝ ∗ ⌜ passes ≤ 20 ⌝ }
+    ensures { λ r. ⌜ r ≡ student passes ⌝ }
+{
+    STUDENT[passes - 5]
+}
+
 /// Student's t at 0.95 for a number of passes, in thousandths.
 pub fn quantile(passes: usize) -> u16
     requires { ⌜ 5 ≤ passes ⌝ ∗ ⌜ passes ≤ 20 ⌝ }
     ensures value { λ r. ⌜ r ≡ student passes ⌝ }
     ensures range { λ r. ⌜ 2093 ≤ r ⌝ ∗ ⌜ r ≤ 2776 ⌝ }
 {
-    STUDENT[passes - 5]
+    tabled(passes)
 }

@@ -74,11 +74,22 @@ fn all_small(limits: &[u32]) -> bool
     true
 }
 
+/// Whether there are at most eight given limits of at most 1,000,000 steps each.
+pub fn acceptable(limits: &[u32]) -> bool
+    ensures yes { λ r. ⌜ (r ≡ true → Limits (now (limits .entry))) ⌝ }
+    ensures no { λ r. ⌜ (r ≡ false → Limits (now (limits .entry)) → ⊥) ⌝ }
+{
+    if limits.len() > 8 {
+        return false;
+    }
+    all_small(limits)
+}
+
 /// The figures of a range, where there are 2 to 10 points, and at most eight given limits of at most 1,000,000 steps each.
 pub fn range(points: &[Point], limits: &[u32]) -> Option<Range>
     ensures { λ r. ⌜ Answered (now (points .entry)) (now (limits .entry)) r ⌝ }
 {
-    if points.len() < 2 || points.len() > 10 || limits.len() > 8 || !all_small(limits) {
+    if points.len() < 2 || points.len() > 10 || !acceptable(limits) {
         return None;
     }
     Some(work(points, limits))

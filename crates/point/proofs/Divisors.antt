@@ -1,13 +1,12 @@
 -- What scatter is measured against, between the ends of the divisor.
-use Prim.Native.Nat.{ℕ, _+_, _*_, _≤_}
-use mathlib.Core.Path.{_≡_, sym, ap, subst}
+use Prim.Native.Nat.{ℕ, _+_, _≤_}
+use mathlib.Core.Path.{_≡_, sym, subst}
 use native.Mathlib.Omega.{arith}
 use lib.IntN.{ℤ, pos, natAbs, _+ℤ_}
 use lib.Signed.{_≤ℤ_}
 use Rattle.std.proofs.shelf.Signed.{ints}
-use Rattle.exact.specs.Fractions.{Fraction, Le, nat}
-use Rattle.exact.specs.Figures.{number}
-use Rattle.exact.specs.Pairs.{Holds, steps}
+use Rattle.exact.specs.Fractions.{Fraction, Le}
+use Rattle.exact.specs.Pairs.{steps}
 use Rattle.exact.proofs.Worth.{worth-nat, worth-le}
 use Rattle.pass.specs.Kinds.{Kind, K, MF, F, least}
 use Rattle.point.specs.Points.{against}

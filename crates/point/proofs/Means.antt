@@ -1,22 +1,20 @@
 -- The mean of values that rows hold, worked out on their levels.
-use Prim.Native.Nat.{ℕ, suc, _+_, _*_, _-_, _/_, _<_, _≤_}
-use mathlib.Core.Path.{_≡_, refl, sym, ap, subst, _∙_}
+use Prim.Native.Nat.{ℕ, suc, _+_, _*_, _-_, _<_, _≤_}
+use mathlib.Core.Path.{_≡_, refl, ap, subst}
 use mathlib.Core.List.{List, [], _∷_}
 use native.Mathlib.Omega.{arith}
 use lib.Dec.{lit<}
-use lib.IntN.{ℤ, pos, natAbs, _+ℤ_}
-use lib.Signed.{_≤ℤ_}
+use lib.IntN.{ℤ, pos, _+ℤ_}
 use lib.ListN.{length}
-use borrow.Author.Differences.{up, down}
 use Rattle.std.specs.shelf.Lists.{All, sumBy}
 use Rattle.std.proofs.shelf.Signed.{ints}
-use Rattle.std.proofs.shelf.Sums.{sumBy-cons, sumBy-le}
-use Rattle.exact.specs.Fractions.{Fraction, Le, Lt, Same, whole, nat, add, sub, mul, div}
-use Rattle.exact.specs.Figures.{Figure, number, root}
+use Rattle.std.proofs.shelf.Sums.{sumBy-cons}
+use Rattle.exact.specs.Fractions.{Fraction, Le, Same, nat, add, mul, div}
+use Rattle.exact.specs.Figures.{number}
 use Rattle.exact.specs.Pairs.{Holds, steps, floor, ceiling}
-use Rattle.exact.proofs.Order.{le-refl, le-trans, same-le, same-sym, same-refl, same-trans, nat-positive}
-use Rattle.exact.proofs.Worth.{Worth, worth-itself, worth-nat, worth-whole, worth-add, worth-neg, worth-mul, worth-div, worth-le, le-worth, worth-same, worth-of}
-use Rattle.exact.proofs.Arithmetic.{add-mono, add-same}
+use Rattle.exact.proofs.Order.{le-trans, same-le, same-sym, same-refl, nat-positive}
+use Rattle.exact.proofs.Worth.{Worth, worth-itself, worth-nat, worth-whole, worth-add, worth-mul, worth-div, worth-le, le-worth, worth-same, worth-of}
+use Rattle.exact.proofs.Arithmetic.{add-mono}
 use Rattle.exact.proofs.Quotients.{quotient-least, quotient-most, floor-under, ceil-over, floor-least, floor-most, ceil-most}
 use Rattle.pass.specs.Kinds.{Kind, K, MF, F}
 use Rattle.point.specs.declared.ends.Ends.{Ends}

@@ -1,24 +1,24 @@
 -- S and S0 from the sum of squared deviations and what scatter is measured against.
-use Prim.Native.Nat.{ℕ, suc, _+_, _*_, _-_, _<_, _≤_}
-use mathlib.Core.Path.{_≡_, sym, ap, subst}
+use Prim.Native.Nat.{ℕ, _+_, _*_, _-_, _<_, _≤_}
+use mathlib.Core.Path.{_≡_}
 use mathlib.Core.List.{List}
 use native.Mathlib.Omega.{arith}
 use native.Mathlib.Nat.{mul-pos, mul-le-mul}
 use lib.Dec.{lit<}
-use lib.IntN.{ℤ, pos}
+use lib.IntN.{pos}
 use lib.ListN.{length}
-use Rattle.exact.specs.Fractions.{Fraction, Le, Lt, Same, whole, nat, add, neg, sub, mul, div}
-use Rattle.exact.specs.Figures.{number, root}
+use Rattle.exact.specs.Fractions.{Fraction, Le, Lt, nat, mul, div}
+use Rattle.exact.specs.Figures.{root}
 use Rattle.exact.specs.Pairs.{Holds, steps}
-use Rattle.exact.proofs.Order.{le-refl, le-trans, lt-le, lt-le-trans, le-lt-trans, same-le, same-sym, same-refl, nat-le, nat-positive}
-use Rattle.exact.proofs.Worth.{Worth, worth-itself, worth-nat, worth-add, worth-neg, worth-mul, worth-div, worth-le, worth-lt, le-worth, worth-same, worth-of}
-use Rattle.exact.proofs.Arithmetic.{mul-mono, mul-comm}
+use Rattle.exact.proofs.Order.{le-refl, le-trans, lt-le, lt-le-trans, nat-le, nat-positive}
+use Rattle.exact.proofs.Worth.{Worth, worth-nat, worth-mul, worth-div, worth-le, worth-lt, worth-of}
+use Rattle.exact.proofs.Arithmetic.{mul-mono}
 use Rattle.exact.proofs.Quotients.{quotient-least, quotient-most}
 use Rattle.exact.proofs.Figures.{square-mono}
 use Rattle.pass.specs.Kinds.{Kind}
 use Rattle.point.specs.Points.{square, mean, deviation, against, scatter², of-mean², random², student}
-use Rattle.point.specs.Deviations.{squares, Deviates}
-use Rattle.point.proofs.Steps.{worth-step, worth-squares, worth-square, step-positive, root-holds, holds-least, holds-most}
+use Rattle.point.specs.Deviations.{squares}
+use Rattle.point.proofs.Steps.{worth-squares, worth-square, step-positive, root-holds, holds-least, holds-most}
 
 -- (n − 1)·m² for m between x and X steps
 below-bottom : (P x : ℕ) (m : Fraction) → Le (steps (pos x)) m → Le (mul (nat P) (mul (steps (pos x)) (steps (pos x)))) (mul (nat P) (square m))

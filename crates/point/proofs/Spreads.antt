@@ -1,24 +1,22 @@
 -- The sum of squared deviations of values that rows hold, worked out on their levels.
-use Prim.Native.Nat.{ℕ, suc, _+_, _*_, _-_, _<_, _≤_, max}
-use mathlib.Core.Path.{_≡_, refl, sym, ap, subst, _∙_}
-use mathlib.Core.List.{List, [], _∷_}
+use Prim.Native.Nat.{ℕ, _+_, _*_, _-_, _<_, _≤_}
+use mathlib.Core.Path.{_≡_, sym, subst}
+use mathlib.Core.List.{List}
 use mathlib.Core.Logic.{_⊎_, inl, inr}
 use native.Mathlib.Omega.{arith}
-use lib.Dec.{lit<}
-use lib.IntN.{ℤ, pos}
-use lib.ListN.{length}
+use lib.IntN.{pos}
 use Rattle.std.specs.shelf.Lists.{All, sumBy}
 use Rattle.std.proofs.shelf.Sums.{sumBy-cons}
 use Rattle.std.proofs.shelf.Tests.{cases-lt}
-use Rattle.exact.specs.Fractions.{Fraction, Le, Lt, Same, whole, nat, add, neg, sub, mul, div}
+use Rattle.exact.specs.Fractions.{Fraction, Le, Lt, Same, nat, add, neg, sub, mul}
 use Rattle.exact.specs.Figures.{number}
 use Rattle.exact.specs.Pairs.{Holds, steps}
 use Rattle.exact.proofs.Order.{le-trans, le-or-lt, lt-le, same-le, same-sym, same-refl}
-use Rattle.exact.proofs.Worth.{Worth, worth-itself, worth-nat, worth-add, worth-neg, worth-le, le-worth, worth-same}
-use Rattle.exact.proofs.Arithmetic.{add-mono, sub-mono, neg-mono}
+use Rattle.exact.proofs.Worth.{worth-itself, worth-nat, worth-add, worth-neg, worth-le, le-worth, worth-same}
+use Rattle.exact.proofs.Arithmetic.{add-mono, sub-mono}
 use Rattle.pass.specs.Kinds.{Kind, K, MF, F}
 use Rattle.point.specs.declared.ends.Ends.{Ends}
-use Rattle.point.specs.Points.{square, spread}
+use Rattle.point.specs.Points.{spread}
 use Rattle.point.specs.Levels.{level, raised}
 use Rattle.point.specs.Rows.{Held, none, more, Fits}
 use Rattle.point.specs.Deviations.{nearest, farthest, nearest², farthest², squares}

@@ -1,16 +1,14 @@
 -- Ends in steps that are not negative, and what figures they hold.
-use Prim.Native.Nat.{ℕ, _+_, _*_, _-_, _<_, _≤_, max}
-use mathlib.Core.Path.{_≡_, sym}
+use Prim.Native.Nat.{ℕ, _*_, _-_, _<_}
 use mathlib.Core.Logic.{_⊎_, inl, inr}
 use native.Mathlib.Omega.{arith}
 use lib.Dec.{lit<}
-use lib.IntN.{ℤ, pos}
-use Rattle.exact.specs.Fractions.{Fraction, Le, Lt, Same, whole, nat, add, neg, sub, mul, div}
-use Rattle.exact.specs.Figures.{Figure, number, root}
+use lib.IntN.{pos}
+use Rattle.exact.specs.Fractions.{Fraction, Le, Lt, Same, nat, neg, mul}
+use Rattle.exact.specs.Figures.{root}
 use Rattle.exact.specs.Pairs.{Holds, steps}
-use Rattle.exact.proofs.Order.{le-refl, le-trans, le-or-lt, lt-le, same-le, same-sym}
-use Rattle.exact.proofs.Worth.{Worth, worth-itself, worth-nat, worth-whole, worth-add, worth-neg, worth-mul, worth-div, worth-le, le-worth, worth-same, worth-of}
-use Rattle.exact.proofs.Arithmetic.{mul-left, mul-mono}
+use Rattle.exact.proofs.Order.{le-trans, le-or-lt, lt-le, same-le, same-sym}
+use Rattle.exact.proofs.Worth.{Worth, worth-itself, worth-nat, worth-neg, worth-mul, worth-div, worth-le, le-worth, worth-same, worth-of}
 use Rattle.exact.proofs.Figures.{square-mono}
 use Rattle.point.specs.Deviations.{squares}
 

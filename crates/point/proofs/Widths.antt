@@ -1,8 +1,7 @@
 -- How far apart the ends of S, S0 and ε are, in whole numbers.
-use Prim.Native.Nat.{ℕ, suc, _+_, _*_, _-_, _/_, _<_, _≤_, max}
-use mathlib.Core.Path.{_≡_, sym, ap, subst}
+use Prim.Native.Nat.{ℕ, suc, _+_, _*_, _-_, _/_, _<_, _≤_}
+use mathlib.Core.Path.{_≡_}
 use mathlib.Core.List.{List, [], _∷_}
-use mathlib.Core.Logic.{_⊎_, inl, inr}
 use native.Mathlib.Omega.{arith}
 use native.Mathlib.Decide.{decLe}
 use native.Mathlib.Nat.{mul-pos, mul-le-mul, mul-le-mul-left, mul-le-mul-right, le-of-mul-le-mul-left, le-of-mul-le-mul-right}
@@ -14,7 +13,7 @@ use Rattle.point.specs.declared.ends.Ends.{Ends}
 use Rattle.point.specs.Levels.{raised}
 use Rattle.point.specs.Rows.{Fits}
 use Rattle.point.specs.Deviations.{nearest, farthest, nearest², farthest²}
-use Rattle.point.proofs.Naturals.{square-mono, root-lt, root-le, stretched}
+use Rattle.point.proofs.Naturals.{square-mono, root-le, stretched}
 use Rattle.point.proofs.Means.{level-range}
 
 -- A deviation's greatest size is at most 601 above its least: 300 for the row, 301 for the mean.

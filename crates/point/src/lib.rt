@@ -5,6 +5,7 @@ pub mod ends;
 pub mod figures;
 pub mod level;
 pub mod mean;
+pub mod pairing;
 pub mod roots;
 pub mod rounding;
 pub mod scatter;

@@ -1,15 +1,13 @@
 // The mean of a point.
-ghost use Prim.Native.Nat.{ℕ, _+_, _*_, _<_, _≤_};
+ghost use Prim.Native.Nat.{_+_, _*_, _<_, _≤_};
 ghost use mathlib.Core.Path.{_≡_};
 ghost use mathlib.Core.List.{List};
 ghost use lib.IntN.{pos, _+ℤ_};
-ghost use lib.Signed.{_≤ℤ_};
 ghost use lib.ListN.{length};
 ghost use Rattle.std.specs.shelf.Lists.{All, sumBy};
 ghost use Rattle.exact.specs.Fractions.{Fraction};
 ghost use Rattle.exact.specs.Figures.{number};
-ghost use Rattle.exact.specs.Pairs.{Holds, steps, floor, ceiling};
-ghost use Rattle.pass.specs.Kinds.{least, most};
+ghost use Rattle.exact.specs.Pairs.{Holds, steps};
 ghost use Rattle.point.specs.Points.{mean as exact-mean};
 ghost use Rattle.point.specs.Levels.{raise, raised, level as level-of};
 ghost use Rattle.point.specs.Rows.{Fits, Held};

@@ -2,7 +2,7 @@
 ghost use Prim.Native.Nat.{ℕ, _+_, _*_, _-_, _^_, _<_, _≤_};
 ghost use mathlib.Core.Path.{_≡_};
 ghost use mathlib.Core.List.{List};
-ghost use lib.IntN.{pos, natAbs, _+ℤ_};
+ghost use lib.IntN.{pos, _+ℤ_};
 ghost use lib.Signed.{_≤ℤ_};
 ghost use lib.ListN.{length};
 ghost use Rattle.exact.specs.Fractions.{Fraction};
@@ -12,6 +12,8 @@ ghost use Rattle.point.specs.Points.{scatter as exact-scatter, of-mean as exac
 ghost use Rattle.point.specs.Deviations.{Deviates};
 use crate::bounds::Bounds;
 use crate::deviations::Deviations;
+use crate::pairing::natural;
+use crate::pairing::paired;
 use crate::roots::root_ceil;
 use crate::roots::root_floor;
 use crate::rounding::rounded_down;
@@ -49,19 +51,6 @@ fn relative_root(deviations: &Deviations, shares: u64) -> Bounds
     }
 }
 
-/// Two ends that are not negative, as a pair.
-pub fn paired(low: u64, high: u64) -> Pair
-    requires ordered { ⌜ low ≤ high ⌝ }
-    requires fits { ⌜ high ≤ 1000000000000 ⌝ }
-    ensures low { λ r. ⌜ r .low ≡ pos low ⌝ }
-    ensures high { λ r. ⌜ r .high ≡ pos high ⌝ }
-{
-    Pair {
-        low: low as i64,
-        high: high as i64,
-    }
-}
-
 /// S, in steps: the root of the squares over n − 1, against the divisor.
 pub(crate) fn scattered(deviations: &Deviations) -> Pair
     requires { ⌜ ((k s : ℕ) → (k * s) * (now deviations .most) ≤ (k * (s + k)) * (now deviations .least) + (s * (s + k)) * (now deviations .passes * (601 * 601))) ⌝ }
@@ -82,14 +71,6 @@ pub(crate) fn mean_scatter(deviations: &Deviations) -> Pair
 {
     let root = relative_root(deviations, deviations.passes * (deviations.passes - 1));
     paired(root.low, root.high)
-}
-
-/// An end that is not negative.
-pub fn natural(end: i64) -> u64
-    requires { ⌜ pos 0 ≤ℤ end ⌝ }
-    ensures { λ r. ⌜ r ≡ natAbs end ⌝ }
-{
-    end as u64
 }
 
 /// ε = t·S0, in steps.

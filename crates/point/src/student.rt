@@ -32,7 +32,7 @@ fn tabled(passes: usize) -> u16
 }
 
 /// Student's t at 0.95 for a number of passes, in thousandths.
-pub fn quantile(passes: usize) -> u16
+pub(crate) fn quantile(passes: usize) -> u16
     requires { ⌜ 5 ≤ passes ⌝ ∗ ⌜ passes ≤ 20 ⌝ }
     ensures value { λ r. ⌜ r ≡ student passes ⌝ }
     ensures range { λ r. ⌜ 2093 ≤ r ⌝ ∗ ⌜ r ≤ 2776 ⌝ }

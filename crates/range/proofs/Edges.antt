@@ -1,24 +1,24 @@
 -- The two edges between rules: Θ lies from t to T, S0 from s to S, in steps.
 use Prim.Native.Nat.{ℕ, _+_, _*_, _<_, _≤_}
-use mathlib.Core.Bool.{true, false, cond}
-use mathlib.Core.Path.{_≡_, refl, _∙_}
+use mathlib.Core.Bool.{true, false}
+use mathlib.Core.Path.{_≡_, _∙_}
 use mathlib.Core.Logic.{_⊎_, inl, inr}
 use native.Mathlib.Omega.{arith}
 use native.Mathlib.Nat.{mul-le-mul}
 use lib.Dec.{lit<}
-use lib.IntN.{ℤ, pos}
+use lib.IntN.{pos}
 use Rattle.std.proofs.shelf.Tests.{cond-true, cond-false, cases-bool}
-use Rattle.exact.specs.Fractions.{Fraction, Le, Lt, nat, add, mul, div}
+use Rattle.exact.specs.Fractions.{Fraction, Le, nat, add, mul}
 use Rattle.exact.specs.Figures.{Figure, root, times, AtMost, AtLeast}
 use Rattle.exact.specs.Pairs.{Holds, steps}
-use Rattle.exact.proofs.Order.{le-refl, le-trans, lt-le, lt-le-trans, le-lt-trans, not-lt, nat-le}
+use Rattle.exact.proofs.Order.{le-refl, le-trans, lt-le-trans, le-lt-trans, not-lt, nat-le}
 use Rattle.exact.proofs.Worth.{Worth, worth-nat, worth-add, worth-mul, worth-div, worth-le, worth-lt, worth-of}
 use Rattle.exact.proofs.Arithmetic.{add-mono, mul-mono}
 use Rattle.exact.proofs.Figures.{apart}
 use Rattle.point.specs.Deviations.{squares}
-use Rattle.point.proofs.Steps.{worth-step, worth-squares, step-positive, holds-least, holds-most}
+use Rattle.point.proofs.Steps.{worth-step, worth-squares, holds-least, holds-most}
 use Rattle.range.specs.Ranges.{at-most}
-use Rattle.range.specs.Rules.{Rule, systematic, random, mixed, part, part-positive, rule, Near, NearUpper, NearLower}
+use Rattle.range.specs.Rules.{systematic, random, mixed, part, part-positive, rule, Near, NearUpper, NearLower}
 use Rattle.range.proofs.Greaters.{le-at-most, lt-at-most}
 
 -- figures whose pairs reach no more than w over each other are near

@@ -4,18 +4,17 @@ use mathlib.Core.Path.{_≡_, refl, sym, subst}
 use mathlib.Core.Logic.{_⊎_, inl, inr}
 use native.Mathlib.Omega.{arith}
 use lib.Dec.{lit<}
-use lib.IntN.{ℤ, pos, _+ℤ_}
-use lib.Signed.{_≤ℤ_}
+use lib.IntN.{ℤ, pos}
 use Rattle.std.proofs.shelf.Signed.{ints}
 use Rattle.std.proofs.shelf.Tests.{cases-lt}
-use Rattle.exact.specs.Fractions.{Fraction, Le, nat, add, sub, mul}
-use Rattle.exact.specs.Figures.{Figure, root, times, plus, AtMost, AtLeast}
+use Rattle.exact.specs.Fractions.{Fraction, Le, add}
+use Rattle.exact.specs.Figures.{Figure, root, AtMost, AtLeast}
 use Rattle.exact.specs.Pairs.{Holds, steps}
-use Rattle.exact.proofs.Order.{le-refl, le-trans}
-use Rattle.exact.proofs.Worth.{Worth, worth-nat, worth-add, worth-neg, worth-mul, worth-div, worth-le, worth-of}
+use Rattle.exact.proofs.Order.{le-refl}
+use Rattle.exact.proofs.Worth.{worth-add, worth-neg, worth-mul, worth-le}
 use Rattle.exact.proofs.Figures.{lower, higher}
 use Rattle.point.proofs.Steps.{worth-step}
-use Rattle.range.specs.Rules.{Rule, systematic, random, mixed, part, part-positive, rule, error-by, error, NearUpper, NearLower}
+use Rattle.range.specs.Rules.{Rule, systematic, random, mixed, rule, error-by, error, NearUpper, NearLower}
 use Rattle.range.specs.Outcomes.{NearChange, May, Spans, ErrorHolds}
 use Rattle.range.proofs.Edges.{worth-part}
 

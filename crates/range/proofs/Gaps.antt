@@ -1,23 +1,22 @@
 -- The half-gap of two levels: y lies from a to A, z from p to P, in steps.
-use Prim.Native.Nat.{ℕ, _+_, _*_, _-_, _/_, _<_, _≤_, max}
-use mathlib.Core.Path.{_≡_, sym, ap, subst}
+use Prim.Native.Nat.{ℕ, _+_, _*_, _-_, _<_, _≤_}
+use mathlib.Core.Path.{_≡_, sym, subst}
 use mathlib.Core.Logic.{_⊎_, inl, inr}
 use native.Mathlib.Omega.{arith}
-use native.Mathlib.Nat.{mul-le-mul-left, mul-le-mul-right}
+use native.Mathlib.Nat.{mul-le-mul-left}
 use lib.Dec.{lit<}
-use lib.IntN.{ℤ, pos}
+use lib.IntN.{pos}
 use Rattle.std.proofs.shelf.Tests.{cases-lt}
-use Rattle.exact.specs.Fractions.{Fraction, Le, Lt, Same, nat, add, neg, sub, mul, div}
+use Rattle.exact.specs.Fractions.{Fraction, Le, Lt, nat, add, sub, mul}
 use Rattle.exact.specs.Figures.{number}
 use Rattle.exact.specs.Pairs.{Holds, steps, floor, ceiling}
-use Rattle.exact.proofs.Order.{le-refl, le-trans, le-or-lt, lt-le, lt-le-trans, same-le, nat-le}
-use Rattle.exact.proofs.Worth.{Worth, worth-itself, worth-nat, worth-add, worth-neg, worth-mul, worth-le, worth-lt, le-worth, worth-same, worth-of}
+use Rattle.exact.proofs.Order.{le-refl, le-trans, le-or-lt, lt-le, lt-le-trans, nat-le}
+use Rattle.exact.proofs.Worth.{Worth, worth-itself, worth-nat, worth-add, worth-neg, worth-mul, worth-le, worth-lt, le-worth, worth-of}
 use Rattle.exact.proofs.Arithmetic.{add-mono, mul-mono}
 use Rattle.exact.proofs.Quotients.{quotient-least, quotient-most, floor-under, ceil-over, floor-most, ceil-most}
 use Rattle.point.specs.Deviations.{nearest, farthest}
 use Rattle.point.proofs.Steps.{worth-step, step-positive}
 use Rattle.point.proofs.Spreads.{gap-least, gap-most}
-use Rattle.point.specs.declared.bounds.Bounds.{Bounds}
 use Rattle.range.specs.Gaps.{half-gap-low, half-gap-high}
 use Rattle.range.specs.Ranges.{greater, half-gap}
 use Rattle.range.specs.Reaches.{Narrow}

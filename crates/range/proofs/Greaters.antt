@@ -1,17 +1,16 @@
 -- The greater of two numbers, and the pair that holds it.
-use Prim.Native.Nat.{ℕ, _+_, _*_, _<_, _≤_, max}
-use mathlib.Core.Bool.{Bool, true, false, cond}
-use mathlib.Core.Path.{_≡_, sym, ap, subst}
-use mathlib.Core.Logic.{_⊎_, inl, inr}
+use Prim.Native.Nat.{ℕ, _*_, _≤_, max}
+use mathlib.Core.Bool.{true, false}
+use mathlib.Core.Path.{_≡_, sym, subst}
+use mathlib.Core.Logic.{inl, inr}
 use native.Mathlib.Omega.{arith}
 use native.Mathlib.Nat.{mul-le-mul}
-use lib.Dec.{leb}
-use lib.IntN.{ℤ, pos}
+use lib.IntN.{pos}
 use Rattle.std.proofs.shelf.Tests.{cases-lt, cond-both, leb-true, leb-false, le-leb, lt-leb}
 use Rattle.exact.specs.Fractions.{Fraction, Le, Lt, nat}
-use Rattle.exact.specs.Figures.{Figure, number, root}
+use Rattle.exact.specs.Figures.{number, root}
 use Rattle.exact.specs.Pairs.{Holds, steps}
-use Rattle.exact.proofs.Order.{le-refl, le-trans, lt-le, not-lt}
+use Rattle.exact.proofs.Order.{le-refl, le-trans, lt-le}
 use Rattle.exact.proofs.Worth.{worth-nat, worth-le}
 use Rattle.point.specs.Deviations.{squares}
 use Rattle.point.proofs.Steps.{worth-step, worth-squares, root-holds, holds-least, holds-most}

@@ -1,15 +1,15 @@
 -- Θ from Θ_A and the given limits.
 use Prim.Native.Nat.{ℕ, pred, _+_, _*_, _<_, _≤_}
-use mathlib.Core.Path.{_≡_, sym, ap, subst}
+use mathlib.Core.Path.{_≡_}
 use mathlib.Core.List.{List, [], _∷_, map}
 use native.Mathlib.Omega.{arith}
 use native.Mathlib.Decide.{decLe}
-use native.Mathlib.Nat.{mul-le-mul, mul-le-mul-right}
+use native.Mathlib.Nat.{mul-le-mul}
 use lib.Dec.{lit<}
-use lib.IntN.{ℤ, pos}
+use lib.IntN.{pos}
 use Rattle.std.specs.shelf.Lists.{sumBy}
 use Rattle.std.proofs.shelf.Sums.{sumBy-cons}
-use Rattle.exact.specs.Fractions.{Fraction, Le, Lt, Same, nat, add, mul, div}
+use Rattle.exact.specs.Fractions.{Fraction, Le, Same, nat, add, mul, div}
 use Rattle.exact.specs.Figures.{number, root}
 use Rattle.exact.specs.Pairs.{Holds, steps}
 use Rattle.exact.proofs.Order.{le-refl, le-trans, same-le, same-sym, same-trans}
@@ -19,7 +19,7 @@ use Rattle.exact.proofs.Figures.{square-mono}
 use Rattle.point.specs.Points.{square, sum}
 use Rattle.point.specs.Deviations.{squares}
 use Rattle.point.proofs.Naturals.{root-lt, root-le, square-mono as square-mono-n}
-use Rattle.point.proofs.Steps.{worth-step, worth-squares, square-step, step-positive, root-holds}
+use Rattle.point.proofs.Steps.{worth-squares, square-step, step-positive, root-holds}
 use Rattle.range.specs.Ranges.{Θ², given}
 
 squares-add : (a b : ℕ) → Same (add (squares a) (squares b)) (squares (a + b))

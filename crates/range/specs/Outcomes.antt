@@ -1,5 +1,4 @@
 -- What the error worked out for a range promises. Assumes nothing.
-use Prim.Native.Nat.{ℕ}
 use mathlib.Core.Logic.{_⊎_}
 use mathlib.Core.Path.{_≡_}
 use lib.IntN.{ℤ, pos, _+ℤ_}

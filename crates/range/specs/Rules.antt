@@ -1,8 +1,6 @@
 -- Which rule gives the error, and when a change of rule is near. Assumes nothing.
 use Prim.Native.Nat.{ℕ}
-use mathlib.Core.Bool.{Bool, cond}
-use mathlib.Core.Logic.{_⊎_}
-use mathlib.Core.Path.{_≡_}
+use mathlib.Core.Bool.{cond}
 use native.Mathlib.Omega.{arith}
 use lib.IntN.{pos}
 use Rattle.exact.specs.Fractions.{Fraction, Le, Lt, whole, nat, add, mul, div}

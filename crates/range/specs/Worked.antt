@@ -1,9 +1,7 @@
 -- Figures of a range worked by hand, of the definitions. Assumes nothing.
-use mathlib.Core.List.{List, [], _∷_}
-use mathlib.Core.Path.{_≡_}
+use mathlib.Core.List.{[], _∷_}
 use lib.IntN.{pos}
-use Rattle.exact.specs.Fractions.{Fraction, Same, nat, mul}
-use Rattle.exact.specs.Figures.{number}
+use Rattle.exact.specs.Fractions.{Same, nat, mul}
 use Rattle.exact.specs.Pairs.{Holds, parts}
 use Rattle.pass.specs.Kinds.{MF}
 use Rattle.range.specs.Ranges.{ΘA, Θ²}

@@ -1,5 +1,5 @@
 // Which rule gives the error, as far as the pairs tell.
-ghost use Prim.Native.Nat.{ℕ, _*_, _<_, _≤_};
+ghost use Prim.Native.Nat.{_*_, _<_, _≤_};
 ghost use mathlib.Core.Path.{_≡_};
 ghost use mathlib.Core.Bool.{true, false};
 ghost use lib.IntN.{pos};
@@ -43,7 +43,7 @@ fn upper_open(systematic: Bounds, of_mean: Bounds) -> Left
 }
 
 /// The rules that the pairs of Θ and S0 leave, Θ being compared with 8·S0 and with 0.8·S0.
-pub fn decide(systematic: Bounds, of_mean: Bounds) -> Left
+pub(crate) fn decide(systematic: Bounds, of_mean: Bounds) -> Left
     requires systematic { ⌜ Narrow 310 20000000 systematic ⌝ }
     requires of_mean { ⌜ Narrow 520 50000000 «of_mean» ⌝ }
     ensures { λ r. ⌜ ((θ² s² : Fraction) → Holds steps (pos (systematic .low)) (pos (systematic .high)) (root θ²) → Holds steps (pos («of_mean» .low)) (pos («of_mean» .high)) (root s²) → Decided θ² s² r) ⌝ }

@@ -1,5 +1,5 @@
 // The error of the meter over the range.
-ghost use Prim.Native.Nat.{ℕ, _≤_, _+_, max, min};
+ghost use Prim.Native.Nat.{_≤_, _+_, max, min};
 ghost use mathlib.Core.Path.{_≡_};
 ghost use lib.IntN.{pos};
 ghost use Rattle.exact.specs.Fractions.{Fraction};
@@ -38,7 +38,7 @@ fn around(one: Bounds, other: Bounds) -> Bounds
 }
 
 /// The error, in steps, by the rules that are left.
-pub fn error(left: Left, systematic: Bounds, random: Bounds) -> Bounds
+pub(crate) fn error(left: Left, systematic: Bounds, random: Bounds) -> Bounds
     requires systematic { ⌜ Narrow 310 20000000 systematic ⌝ }
     requires random { ⌜ Narrow 1450 50000000 random ⌝ }
     ensures holds { λ r. ⌜ ((θ² s² ε² : Fraction) → Decided θ² s² left → Holds steps (pos (systematic .low)) (pos (systematic .high)) (root θ²) → Holds steps (pos (random .low)) (pos (random .high)) (root ε²) → ErrorHolds θ² s² ε² (pos (r .low)) (pos (r .high))) ⌝ }

@@ -9,7 +9,7 @@ use point::rounding::rounded_down;
 use point::rounding::rounded_up;
 
 /// |x − y|/(2·(x + y)) of two levels, in steps: the lower end over the upper sum rounded down, the upper end the other way.
-pub fn half_gap(one: Level, other: Level) -> Bounds
+pub(crate) fn half_gap(one: Level, other: Level) -> Bounds
     ensures low { λ r. ⌜ r .low ≡ half-gap-low (one .low) (one .high) (other .low) (other .high) ⌝ }
     ensures high { λ r. ⌜ r .high ≡ half-gap-high (one .low) (one .high) (other .low) (other .high) ⌝ }
 {

@@ -1,5 +1,5 @@
 // The figures of a range, from its points and the given limits.
-ghost use Prim.Native.Nat.{ℕ, _≤_};
+ghost use Prim.Native.Nat.{_≤_};
 ghost use mathlib.Core.Bool.{true, false};
 ghost use mathlib.Core.List.{List, _∷_};
 ghost use mathlib.Core.Path.{_≡_};
@@ -17,7 +17,7 @@ use crate::reaching::first;
 use crate::reaching::further;
 use crate::systematic::systematic;
 use point::figures::Point;
-use point::scatter::paired;
+use point::pairing::paired;
 
 /// The figures of a range, from the reach of its points.
 pub fn judge(reach: Reach, limits: &[u32]) -> Range
@@ -39,7 +39,7 @@ pub fn judge(reach: Reach, limits: &[u32]) -> Range
 }
 
 /// The reach of points, taken from the last to the first.
-pub fn gather(points: &[Point]) -> Reach
+fn gather(points: &[Point]) -> Reach
     requires { ⌜ 1 ≤ length (now points) ⌝ }
     ensures sound { λ r. ⌜ Sound r ⌝ }
     ensures holds { λ r. ⌜ ((k : Kind) (xs : List Fraction) (xss : List (List Fraction)) → PointsHold k (now (points .entry)) (xs ∷ xss) → Reaches k xs xss r) ⌝ }

@@ -1,34 +1,19 @@
 // Points taken together, one by one.
-ghost use Prim.Native.Nat.{ℕ, _≤_, max};
+ghost use Prim.Native.Nat.{max};
 ghost use mathlib.Core.List.{List, [], _∷_};
 ghost use mathlib.Core.Path.{_≡_};
-ghost use lib.IntN.{pos, natAbs};
-ghost use lib.Signed.{_≤ℤ_};
-ghost use lib.ListN.{length};
+ghost use lib.IntN.{natAbs};
 ghost use Rattle.exact.specs.Fractions.{Fraction};
 ghost use Rattle.pass.specs.Kinds.{Kind};
 ghost use Rattle.point.specs.Outcomes.{PointHolds};
 ghost use Rattle.range.specs.Gaps.{half-gap-low, half-gap-high};
-ghost use Rattle.range.specs.Reaches.{PointsHold, Reaches, Sound};
+ghost use Rattle.range.specs.Reaches.{Reaches, Sound};
 use crate::gap::half_gap;
 use crate::reach::Reach;
-use exact::pair::Pair;
 use point::bounds::Bounds;
 use point::figures::Point;
 use point::level::Level;
-use point::scatter::natural;
-
-/// A pair that is not negative, as two ends.
-fn unpaired(pair: Pair) -> Bounds
-    requires { ⌜ pos 0 ≤ℤ pair .low ⌝ }
-    ensures low { λ r. ⌜ r .low ≡ natAbs (pair .low) ⌝ }
-    ensures high { λ r. ⌜ r .high ≡ natAbs (pair .high) ⌝ }
-{
-    Bounds {
-        low: natural(pair.low),
-        high: natural(pair.high),
-    }
-}
+use point::pairing::unpaired;
 
 /// The larger of two figures, end by end.
 fn larger(one: Bounds, other: Bounds) -> Bounds

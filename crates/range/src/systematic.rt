@@ -1,6 +1,5 @@
 // Θ, the systematic limit.
-ghost use Prim.Native.Nat.{ℕ, _*_, _≤_};
-ghost use mathlib.Core.List.{List};
+ghost use Prim.Native.Nat.{_*_, _≤_};
 ghost use mathlib.Core.Path.{_≡_};
 ghost use lib.IntN.{pos};
 ghost use lib.ListN.{length};
@@ -30,7 +29,7 @@ fn given_squares(limits: &[u32]) -> u64
 }
 
 /// Θ = 1.1·root(Θ_A² + the squares of the given limits), in steps; each end is rounded once.
-pub fn systematic(neighbours: Bounds, limits: &[u32]) -> Bounds
+pub(crate) fn systematic(neighbours: Bounds, limits: &[u32]) -> Bounds
     requires neighbours { ⌜ Narrow 280 6000000 neighbours ⌝ }
     requires few { ⌜ length (now limits) ≤ 8 ⌝ }
     requires small { ⌜ All (λ g. g ≤ 1000000) (now limits) ⌝ }

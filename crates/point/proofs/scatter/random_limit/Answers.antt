@@ -2,7 +2,6 @@ use mathlib.Core.Path.{_∙_, sym, ap}
 use native.Mathlib.Omega.{arith}
 use Rattle.std.proofs.shelf.Signed.{ints}
 use Rattle.exact.proofs.Pairs.{holds-ends}
-use Rattle.exact.proofs.Quotients.{sized}
 use Rattle.point.specs.Points.{student}
 use Rattle.point.proofs.Scatters.{random-holds}
 use Rattle.point.proofs.Widths.{random-narrow, random-most}

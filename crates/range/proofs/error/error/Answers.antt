@@ -1,6 +1,6 @@
 use Prim.Native.Nat.{_+_, _≤_}
 use mathlib.Core.Logic.{inl, inr}
-use mathlib.Core.Path.{subst, _∙_, ap}
+use mathlib.Core.Path.{subst}
 use native.Mathlib.Omega.{arith}
 use Rattle.range.specs.Outcomes.{Decided}
 use Rattle.range.specs.Rules.{systematic, random, mixed}

@@ -1,4 +1,3 @@
-use mathlib.Core.Path.{subst}
 use native.Mathlib.Omega.{arith}
 use Rattle.range.proofs.Together.{last-reach, further-reach, from-first}
 use Rattle.range.proofs.judging.gather.Needs as need

@@ -1,4 +1,4 @@
-use lib.IntN.{ℤ, pos}
+use lib.IntN.{ℤ}
 use mathlib.Core.Path.{_≡_, sym, subst}
 use Rattle.exact.proofs.Pairs.{holds-ends}
 use Rattle.exact.specs.Fractions.{Fraction}

@@ -1,5 +1,4 @@
 use native.Mathlib.Omega.{arith}
-use mathlib.Core.Path.{sym}
 use Rattle.std.proofs.shelf.Signed.{ints}
 use Rattle.range.proofs.Greaters.{holds-nought}
 use Rattle.range.proofs.Together.{first-root, holds-named, holds-sizes}

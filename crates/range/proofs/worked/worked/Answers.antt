@@ -1,5 +1,4 @@
 use mathlib.Core.Path.{refl}
-use native.Mathlib.Omega.{arith}
 use lib.Dec.{lit≤}
 use Rattle.exact.specs.Fractions.{whole, add, neg, mul, div}
 use Rattle.point.specs.Points.{sum, mean}

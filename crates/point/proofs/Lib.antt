@@ -1,0 +1,9 @@
+pub mod Tables
+pub mod Naturals
+pub mod RootBounds
+pub mod Steps
+pub mod Means
+pub mod Spreads
+pub mod Scatters
+pub mod Widths
+pub mod Divisors

@@ -4,11 +4,12 @@
     python3 tools/exact_passes.py crates/prove_pass/stdin crates/prove_pass/stdout
 
 Every denial must be the expected one; every pair must have the expected ends (the exponential liquid's, and what is made of it,
-the printed ones), hold its exact figure and be as narrow as promised.
+the printed ones), hold its exact figure and be as narrow as promised. The pairs of points and ranges must hold the exact figures of
+several lists of values that the rows hold.
 """
 import sys
 from fractions import Fraction as Q
-from math import ceil, floor
+from math import ceil, floor, isqrt
 
 STEP = 10**8
 
@@ -239,10 +240,94 @@ def answers(text):
     return blocks
 
 
+STUDENT = [2776, 2571, 2447, 2365, 2306, 2262, 2228, 2201, 2179, 2160, 2145, 2131, 2120, 2110, 2101, 2093]
+RANGES = {"K": (90000000, 111111112), "MF": (90000000, 110000000), "F": (-10000000, 10000000)}
+
+
+def holds_root(pair, square, width):
+    """The pair holds the root of a square, in steps, and is as narrow as promised."""
+    low, high = pair
+    assert low >= 0 and Q(low) ** 2 <= square * STEP**2 <= Q(high) ** 2 and high - low <= width, (pair, float(square))
+
+
+class Figures:
+    """The exact figures of a point, from one list of exact values that its rows may hold."""
+
+    def __init__(self, kind, values):
+        n = len(values)
+        self.mean = sum(values, Q(0)) / n
+        deviation = sum(((x - self.mean) ** 2 for x in values), Q(0))
+        self.scatter = deviation / (n - 1) / (1 if kind == "F" else self.mean**2)
+        self.of_mean = self.scatter / n
+        self.random = Q(STUDENT[n - 5], 1000) ** 2 * self.of_mean
+        self.level = 1 + self.mean if kind == "F" else self.mean
+
+
+def choices(rows):
+    """Some of the lists of exact values that rows hold: all lower ends, all upper ends, the middles, and the ends in turn."""
+    for pick in (lambda i, l, h: l, lambda i, l, h: h, lambda i, l, h: Q(l + h, 2), lambda i, l, h: (l, h)[i % 2], lambda i, l, h: (h, l)[i % 2]):
+        yield [Q(pick(i, l, h)) / STEP for i, (l, h) in enumerate(rows)]
+
+
+def check_point(kind, numbers, got, kept):
+    rows = list(zip(numbers[::2], numbers[1::2]))
+    least, most = RANGES[kind]
+    good = len(numbers) % 2 == 0 and fits(5, len(rows), 20) and all(least <= l <= h <= most and h - l <= 300 for l, h in rows)
+    if not good:
+        assert got == ["?"], got
+        return
+    pairs = read_pairs(got)
+    for values in choices(rows):
+        f = Figures(kind, values)
+        narrow(pairs["mean"], f.mean * STEP, 432)
+        holds_root(pairs["S"], f.scatter, 1200)
+        holds_root(pairs["S0"], f.of_mean, 520)
+        holds_root(pairs["ε"], f.random, 1450)
+    kept.append((kind, rows))
+
+
+def check_range(limits, got, kept):
+    if not fits(2, len(kept), 10) or len(limits) > 8 or not all(fits(0, g, 10**6) for g in limits):
+        assert got == ["?"], got
+        return
+    pairs = read_pairs(got)
+    for lists in zip(*[list(choices(rows)) for _, rows in kept]):
+        points = [Figures(kind, values) for (kind, _), values in zip(kept, lists)]
+        of_mean, random = max(p.of_mean for p in points), max(p.random for p in points)
+        gap = max(abs(p.level - q.level) / (2 * (p.level + q.level)) for p, q in zip(points, points[1:]))
+        systematic = Q(121, 100) * (gap**2 + sum((Q(g, STEP) ** 2 for g in limits), Q(0)))
+        holds_root(pairs["S0"], of_mean, 520)
+        holds_root(pairs["ε"], random, 1450)
+        narrow(pairs["Θ_A"], gap * STEP, 280)
+        holds_root(pairs["Θ"], systematic, 310)
+        low, high = pairs["error"]
+        if systematic > 64 * of_mean:
+            assert Q(low) ** 2 <= systematic * STEP**2 <= Q(high) ** 2
+        elif systematic < Q(64, 100) * of_mean:
+            assert Q(low) ** 2 <= random * STEP**2 <= Q(high) ** 2
+        else:  # 0.81(Θ + ε) against an end: (end/0.81)² against Θ² + ε² + 2·root(Θ²ε²), the root to 60 places
+            scale = 10**60
+            product = systematic * random
+            root = Q(isqrt(product.numerator * product.denominator * scale**2), product.denominator * scale)
+            least = (systematic + random + 2 * root) * STEP**2
+            most = least + Q(2 * STEP**2, scale)
+            assert (Q(low) / Q(81, 100)) ** 2 <= most and least <= (Q(high) / Q(81, 100)) ** 2, pairs
+        if "or" not in got[-1] and "," not in got[-1]:
+            assert high - low <= 1450, pairs
+
+
 questions = open(sys.argv[1]).read().splitlines()
 printed = answers(open(sys.argv[2]).read())
 assert len(questions) == len(printed), "as many answers as lines"
+kept = []
 for text, got in zip(questions, printed):
-    wanted = line(text, got)
-    assert got == wanted, (text, got, wanted)
+    word = text.split(" ")[0]
+    if word in ("point-K", "point-MF", "point-F"):
+        check_point(word[6:], [int(w) for w in text.split(" ")[1:]], got, kept)
+    elif word == "range":
+        check_range([int(w) for w in text.split(" ")[1:]], got, kept)
+        kept = []
+    else:
+        wanted = line(text, got)
+        assert got == wanted, (text, got, wanted)
 print(len(questions), "lines agree")

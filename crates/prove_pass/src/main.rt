@@ -7,38 +7,63 @@
 //     exponential          r, K0, K1 and K2 of an exponential liquid              its carry factor in the pass
 //     pipe-linear, pipe-exponential, compact-linear, compact-exponential
 //                          the set factor, the prover and the liquid              the sheet of the pass
+// These lines have no record:
+//     point-K, point-MF, point-F   the two ends of each value, in steps           the figures of the point, which is kept
+//     range                the given limits, in steps                             the figures of the kept points, which are then let go
 // Any other line prints `?`.
 mod answers;
 mod lines;
 mod print;
+mod ranges;
 mod work;
 
 use lines::numbers;
+use point::figures::Point;
+use ranges::point_of;
+use ranges::range_of;
 use std::error::AnyError;
 
-fn serve(rt: &LibcRuntime, text: &str) -> Result<(), AnyError> {
+fn answer(word: &str, numbers: &[i32]) -> answers::Answer {
+    match word {
+        "master" => work::against_master(numbers),
+        "pipe" => work::in_pipe(numbers),
+        "compact" => work::in_compact(numbers),
+        "linear" => work::by_linear(numbers),
+        "exponential" => work::by_exponential(numbers),
+        "pipe-linear" => work::pipe_and_linear(numbers),
+        "pipe-exponential" => work::pipe_and_exponential(numbers),
+        "compact-linear" => work::compact_and_linear(numbers),
+        "compact-exponential" => work::compact_and_exponential(numbers),
+        _ => answers::Answer::Unread,
+    }
+}
+
+fn serve(rt: &LibcRuntime, kept: &mut Vec<Point>, text: &str) -> Result<(), AnyError> {
     let (word, rest) = text.split_once(' ').unwrap_or((text, ""));
     let found = numbers(rt.alloc(), rest)?;
-    let answer = match word {
-        "master" => work::against_master(found.as_slice()),
-        "pipe" => work::in_pipe(found.as_slice()),
-        "compact" => work::in_compact(found.as_slice()),
-        "linear" => work::by_linear(found.as_slice()),
-        "exponential" => work::by_exponential(found.as_slice()),
-        "pipe-linear" => work::pipe_and_linear(found.as_slice()),
-        "pipe-exponential" => work::pipe_and_exponential(found.as_slice()),
-        "compact-linear" => work::compact_and_linear(found.as_slice()),
-        "compact-exponential" => work::compact_and_exponential(found.as_slice()),
-        _ => answers::Answer::Unread,
-    };
-    print::answer(rt, answer)?;
+    match word {
+        "point-K" | "point-MF" | "point-F" => {
+            let p = point_of(rt.alloc(), word, found.as_slice())?;
+            print::point(rt, &p)?;
+            if let Some(p) = p {
+                kept.push(p)?;
+            }
+        }
+        "range" => {
+            let r = range_of(rt.alloc(), kept, found.as_slice())?;
+            print::range(rt, &r)?;
+            kept.clear();
+        }
+        _ => print::answer(rt, answer(word, found.as_slice()))?,
+    }
     Ok(())
 }
 
 fn main(rt: LibcRuntime) -> Result<(), AnyError> {
+    let mut kept = Vec::new(rt.alloc());
     for line in rt.lines(rt.alloc()) {
         let text = line?;
-        serve(&rt, text.as_str())?;
+        serve(&rt, &mut kept, text.as_str())?;
     }
     Ok(())
 }

@@ -3,6 +3,9 @@ use crate::answers::Answer;
 use crate::answers::Proving;
 use exact::pair::Pair;
 use pass::denials::Denial;
+use point::figures::Point;
+use range::figures::Range;
+use range::left::Left;
 use sheet::figures::Sheet;
 use std::io;
 
@@ -68,4 +71,43 @@ pub fn answer(rt: &LibcRuntime, a: Answer) -> io::Result<()> {
             proved(rt, p)
         }
     }
+}
+
+/// The figures of a point, or `?` where its rows do not fit.
+pub fn point(rt: &LibcRuntime, found: &Option<Point>) -> io::Result<()> {
+    let Some(p) = found else {
+        return println!(rt, "?");
+    };
+    println!(rt, "point")?;
+    pair(rt, "  mean", p.mean, "steps")?;
+    pair(rt, "  S", p.scatter, "steps")?;
+    pair(rt, "  S0", p.of_mean, "steps")?;
+    pair(rt, "  ε", p.random, "steps")
+}
+
+/// Which rules for the error are left.
+fn rule(left: Left) -> &'static str {
+    match left {
+        Left::Systematic => "Θ",
+        Left::Random => "ε",
+        Left::Mixed => "0.81(Θ + ε)",
+        Left::Upper => "Θ or 0.81(Θ + ε)",
+        Left::Lower => "ε or 0.81(Θ + ε)",
+        Left::Both => "Θ, ε or 0.81(Θ + ε)",
+    }
+}
+
+/// The figures of a range, or `?` where its points or limits do not fit.
+pub fn range(rt: &LibcRuntime, found: &Option<Range>) -> io::Result<()> {
+    let Some(r) = found else {
+        return println!(rt, "?");
+    };
+    println!(rt, "range")?;
+    pair(rt, "  S0", r.of_mean, "steps")?;
+    pair(rt, "  ε", r.random, "steps")?;
+    pair(rt, "  Θ_A", r.neighbours, "steps")?;
+    pair(rt, "  Θ", r.systematic, "steps")?;
+    pair(rt, "  error", r.error, "steps")?;
+    let by = rule(r.left);
+    println!(rt, "  by {by}")
 }

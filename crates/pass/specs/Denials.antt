@@ -1,6 +1,5 @@
 -- The numbers of denials, and what each carries. Assumes nothing.
 use Prim.Native.Nat.{ℕ}
-use mathlib.Core.List.{List, [], _∷_}
 use Rattle.pass.specs.declared.denials.Field.{Field}
 use Rattle.pass.specs.declared.denials.Field.the-variants.{Together, Pulses, DetectorTime, PulseTime, WallTemperature, VesselPressure, RodTemperature, DensitometerTemperature, DensitometerPressure, Density, MasterPulses, MasterTime}
 use Rattle.pass.specs.declared.denials.Device.{Device}
@@ -39,9 +38,9 @@ denial-number (Meter field) = 4
 denial-number (Reference fault) = 5
 denial-number Value = 6
 
--- what it carries: the place of a figure, the field of the meter's, the device and the field of the reference's
-abbrev pub carried : Denial → List ℕ
-carried (Figure place) = place ∷ []
-carried (Meter field) = field-number field ∷ []
-carried (Reference fault) = device-number (fault .device) ∷ field-number (fault .field) ∷ []
-carried Value = []
+-- what it carries, 0 where there is nothing: the place of a figure; the field of the meter; the device and the field of the reference
+abbrev pub carried : Denial → ℕ × ℕ
+carried (Figure place) = (place, 0)
+carried (Meter field) = (field-number field, 0)
+carried (Reference fault) = (device-number (fault .device), field-number (fault .field))
+carried Value = (0, 0)

@@ -1,6 +1,6 @@
 // The numbers of fields, devices and denials.
 ghost use mathlib.Core.Path.{_≡_};
-ghost use Rattle.pass.specs.Denials.{field-number, device-number, denial-number};
+ghost use Rattle.pass.specs.Denials.{field-number, device-number, denial-number, carried as carried-by};
 use crate::denials::Denial;
 use crate::denials::Device;
 use crate::denials::Field;
@@ -52,6 +52,18 @@ impl Denial {
             Denial::Meter(_) => 4,
             Denial::Reference(_) => 5,
             Denial::Value => 6,
+        }
+    }
+
+    /// What the denial carries, 0 where there is nothing: a figure's place; the meter's field; the reference's device and field.
+    pub fn carried(&self) -> (u8, u8)
+        ensures { λ r. ⌜ r ≡ carried-by (now (self .entry)) ⌝ }
+    {
+        match self {
+            Denial::Figure(place) => (*place, 0),
+            Denial::Meter(field) => (field.number(), 0),
+            Denial::Reference(fault) => (fault.device.number(), fault.field.number()),
+            Denial::Value => (0, 0),
         }
     }
 }

@@ -36,17 +36,11 @@ fn proved(rt: &LibcRuntime, p: Proving) -> io::Result<()> {
 /// A denial: its number, and what it carries.
 fn denied(rt: &LibcRuntime, d: Denial) -> io::Result<()> {
     let number = d.number();
+    let (first, second) = d.carried();
     match d {
-        Denial::Figure(place) => println!(rt, "denied {number} place {place}"),
-        Denial::Meter(field) => {
-            let f = field.number();
-            println!(rt, "denied {number} field {f}")
-        }
-        Denial::Reference(fault) => {
-            let d = fault.device.number();
-            let f = fault.field.number();
-            println!(rt, "denied {number} device {d} field {f}")
-        }
+        Denial::Figure(_) => println!(rt, "denied {number} place {first}"),
+        Denial::Meter(_) => println!(rt, "denied {number} field {first}"),
+        Denial::Reference(_) => println!(rt, "denied {number} device {first} field {second}"),
         Denial::Value => println!(rt, "denied {number}"),
     }
 }

@@ -71,16 +71,16 @@ impl CompactProver {
             Ok(section) => section,
             Err(place) => return Err(Denial::Figure(place)),
         };
-        let Some(area_expansion) = in_range(area_expansion, 0, 6_000) else {
+        let Some(area) = in_range(area_expansion, 0, 6_000) else {
             return Err(Denial::Figure(5));
         };
-        let Some(rod_expansion) = in_range(rod_expansion, 0, 3_000) else {
+        let Some(rod) = in_range(rod_expansion, 0, 3_000) else {
             return Err(Denial::Figure(6));
         };
         Ok(CompactProver {
             section,
-            area_expansion,
-            rod_expansion,
+            area_expansion: area,
+            rod_expansion: rod,
         })
     }
 }

@@ -1,9 +1,4 @@
 // Points and the range that they span.
-ghost use Prim.Native.Nat.{_/_};
-ghost use mathlib.Core.Path.{_≡_};
-ghost use lib.ListN.{length};
-ghost use Rattle.std.specs.Of.Vec.{vec-len};
-ghost use Rattle.std.specs.Vec.{made};
 use pass::kinds::Correction;
 use pass::kinds::MeterFactor;
 use pass::kinds::PulseFactor;

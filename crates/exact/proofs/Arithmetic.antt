@@ -1,9 +1,7 @@
 -- Sums, differences and products of fractions: bounds go through them, and they have the laws of arithmetic.
-use Rattle.std.proofs.Common.{◌≡◌, ℕ, ◌+◌, ◌-◌, ◌*◌, ◌<◌, ◌≤◌, ℤ, pos, ◌+ℤ◌, ◌-ℤ◌, ◌*ℤ◌, neg_ℤ, sym, ap, subst, mul-le-mul_right, arith}
-use Rattle.std.proofs.lemmas.Int.{ints}
-use borrow.Author.Differences.{up, down, sum_is_lem, product_is}
-use Rattle.exact.specs.Fractions.{Fraction, Le, Lt, Same, whole, nat, add, neg, sub, mul}
-use Rattle.exact.proofs.Order.{le_refl, le_trans, same_le, same_sym, same_from}
+use Rattle.std.proofs.Common.{◌≡◌, ℕ, ◌+◌, ◌-◌, ◌*◌, ◌≤◌, sym, ap, subst, mul-le-mul_right, arith}
+use Rattle.exact.specs.Fractions.{Fraction, Le, Same, whole, nat, add, neg, sub, mul}
+use Rattle.exact.proofs.Order.{le_trans, same_le, same_sym, same_from}
 
 -- sums
 pub add_comm : (a b : Fraction) → Same (add a b) (add b a)

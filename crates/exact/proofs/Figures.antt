@@ -1,7 +1,7 @@
 -- The laws of figures: which numbers are at most one and which at least keeps the order of numbers.
-use Rattle.std.proofs.Common.{◌≡◌, ℕ, ◌+◌, ◌-◌, ◌*◌, ◌<◌, ◌≤◌, ◌⊎◌, pos, inl, inr, mul-le-mul_right, mul-le-mul_left, arith}
+use Rattle.std.proofs.Common.{◌≡◌, ℕ, ◌+◌, ◌-◌, ◌*◌, ◌<◌, ◌≤◌, ◌⊎◌, inl, inr, mul-le-mul_right, mul-le-mul_left, arith}
 use Rattle.std.proofs.lemmas.Bool.{cases_lt}
-use Rattle.exact.specs.Fractions.{Fraction, Le, Lt, whole, nat, add, mul}
+use Rattle.exact.specs.Fractions.{Fraction, Le, Lt, whole, nat, mul}
 use Rattle.exact.specs.Figures.{Figure, number, root, times, plus, larger, AtMost, AtLeast}
 use Rattle.exact.proofs.Order.{le_trans, le_or_lt, lt_le}
 use Rattle.exact.proofs.Arithmetic.{add_mono, mul_left, mul_mono}

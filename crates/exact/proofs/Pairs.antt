@@ -1,8 +1,8 @@
 -- What pairs that hold figures give: the three consequences that a verdict rests on, and pairs of quotients.
-use Rattle.std.proofs.Common.{◌≡◌, ℕ, ◌+◌, ◌-◌, ◌*◌, ◌/◌, ◌<◌, ◌≤◌, ℤ, pos, ◌+ℤ◌, nat_abs, ◌≤ℤ◌, sym, subst, arith, lit<, le→leb}
+use Rattle.std.proofs.Common.{◌≡◌, ℕ, ◌*◌, ◌/◌, ◌<◌, ◌≤◌, ℤ, pos, ◌+ℤ◌, nat_abs, ◌≤ℤ◌, sym, subst, arith, lit<, le→leb}
 use Rattle.std.proofs.lemmas.Int.{ints}
 use Rattle.exact.specs.Fractions.{Fraction, Le, Lt, Same, whole, nat, add, sub, mul, div}
-use Rattle.exact.specs.Figures.{Figure, number, AtMost, AtLeast, Exceeds, Keeps, Within}
+use Rattle.exact.specs.Figures.{Figure, number, Exceeds, Keeps, Within}
 use Rattle.exact.specs.Pairs.{Holds, parts, steps, floor, ceiling}
 use Rattle.exact.proofs.Order.{le_refl, le_trans, le_whole, lt_le, lt_le_trans, not_lt, same_le, same_sym, nat_le, nat_positive}
 use Rattle.exact.proofs.Worth.{Worth, worth_nat, worth_whole, worth_add, worth_neg, worth_mul, worth_div, worth_le, le_worth, worth_same}

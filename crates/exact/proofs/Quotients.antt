@@ -1,10 +1,8 @@
 -- Quotients by what is above 0: bounds go through them, and floor and ceiling enclose them.
-use Rattle.std.proofs.Common.{◌≡◌, ℕ, ◌+◌, ◌-◌, ◌*◌, ◌/◌, ◌^◌, ◌<◌, ◌≤◌, ℤ, pos, negsuc, nat_abs, ◌≤ℤ◌, refl, ap, mul-le-mul_right, lt_of_mul-lt-mul_right, mul-le-mul_left, le_of_mul-le-mul_right, arith}
-use borrow.Author.Differences.{up, down}
-use Rattle.exact.specs.Fractions.{Fraction, Le, Lt, Same, whole, nat, mul, div}
+use Rattle.std.proofs.Common.{◌≡◌, ℕ, ◌+◌, ◌-◌, ◌*◌, ◌/◌, ◌^◌, ◌<◌, ◌≤◌, ℤ, pos, negsuc, nat_abs, ◌≤ℤ◌, refl, ap, lt_of_mul-lt-mul_right, mul-le-mul_left, le_of_mul-le-mul_right, arith}
+use Rattle.exact.specs.Fractions.{Fraction, Le, Lt, nat, mul, div}
 use Rattle.exact.specs.Pairs.{floor, ceiling}
-use Rattle.exact.proofs.Order.{le_trans, nat_positive}
-use Rattle.exact.proofs.Worth.{Worth, worth_itself, worth_nat, worth_whole, worth_mul, worth_div, worth_le, le_worth, worth_of, lt_worth}
+use Rattle.exact.proofs.Worth.{Worth, worth_itself, worth_nat, worth_mul, worth_div, worth_le, le_worth, worth_of, lt_worth}
 
 -- what is above 0 is worth a natural above 0 over its bottom
 above : (b : Fraction) → Lt (nat 0) b → (0 < b.plus - b.minus) × Worth b (b.plus - b.minus) 0 b.bottom

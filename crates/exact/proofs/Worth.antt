@@ -1,6 +1,6 @@
 -- What a fraction is worth: (p − m)/b. A formula's worth follows its operations, and an order of worths is one of naturals,
 -- so that no other proof looks inside a fraction.
-use Rattle.std.proofs.Common.{◌≡◌, ℕ, ◌+◌, ◌-◌, ◌*◌, ◌<◌, ◌≤◌, max, ◌⊎◌, ℤ, pos, sym, ap, subst, inl, inr, le_of_eq, mul-le-mul_right, mul_comm, le_antisymm, lt_of_mul-lt-mul_right, mul-pos, le_of_mul-le-mul_right, arith, lit<}
+use Rattle.std.proofs.Common.{◌≡◌, ℕ, ◌+◌, ◌-◌, ◌*◌, ◌<◌, ◌≤◌, max, ◌⊎◌, ℤ, sym, ap, inl, inr, le_of_eq, mul-le-mul_right, mul_comm, le_antisymm, mul-pos, le_of_mul-le-mul_right, arith, lit<}
 use native.Mathlib.Decide.{dec_le}
 use borrow.Author.Differences.{up, down}
 use Rattle.std.proofs.lemmas.Bool.{cases_lt}

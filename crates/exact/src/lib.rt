@@ -1,4 +1,6 @@
 // Exact figures, and the pairs of whole numbers that hold them.
+#![tactic(auto)]
+
 pub mod laws;
 pub mod making;
 pub mod pair;

@@ -7,8 +7,8 @@ use Rattle.exact.proofs.rounding.quotient.Goals as goal
 pub floor-requires : goal.floor-requires
 floor-requires c = let h = floor_ceil c.args.top c.args.bottom c.requires.some in record { some = c.requires.some; fits = omega arith }
 
-pub invariant-of-result : goal.invariant-of-result
-invariant-of-result c = let h = floor_ceil c.args.top c.args.bottom c.requires.some in (omega (arith, ints), tt)
+pub invariant_of-result : goal.invariant_of-result
+invariant_of-result c = let h = floor_ceil c.args.top c.args.bottom c.requires.some in record { ordered = omega (arith, ints) }
 
 pub returns : goal.returns
 returns c =

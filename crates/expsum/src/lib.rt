@@ -1,4 +1,6 @@
 // The sum of xᵏ/k! for k from 0 to 20, in units of 10⁻¹².
+#![tactic(auto)]
+
 ghost use Rattle.std.specs.Prelude.{◌*◌, ◌+◌, ◌≤◌, ◌≡◌};
 ghost use Rattle.expsum.specs.Terms.{terms, next_term_lem};
 

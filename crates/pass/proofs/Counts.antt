@@ -1,5 +1,5 @@
 -- Counts in the gate in whole numbers: n pulses, d the detector time, p the pulse time, k the factor.
-use Rattle.std.proofs.Common.{◌≡◌, ℕ, ◌+◌, ◌-◌, ◌*◌, ◌<◌, ◌≤◌, ℤ, pos, negsuc, nat_abs, ◌≤ℤ◌, refl, mul-le-mul_right, mul-le-mul, mul-le-mul_left, mul-pos, arith, lit<}
+use Rattle.std.proofs.Common.{◌≡◌, ℕ, ◌+◌, ◌-◌, ◌*◌, ◌<◌, ◌≤◌, ℤ, pos, negsuc, nat_abs, ◌≤ℤ◌, refl, mul-le-mul_right, mul-le-mul_left, mul-pos, arith}
 use Rattle.std.proofs.lemmas.Int.{ints}
 use Rattle.exact.specs.Fractions.{Same, whole, nat, mul, div}
 use Rattle.exact.specs.Figures.{number}

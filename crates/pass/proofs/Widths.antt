@@ -1,5 +1,5 @@
 -- The widths of values, in whole numbers: the reference's mass lies between a and A, the meter's between b and B, in milligrams.
-use Rattle.std.proofs.Common.{◌≡◌, ℕ, ◌+◌, ◌-◌, ◌*◌, ◌/◌, ◌<◌, ◌≤◌, Bool, true, ℤ, pos, subst, mul-le-mul_right, mul-le-mul, mul-le-mul_left, le_of_mul-le-mul_right, arith}
+use Rattle.std.proofs.Common.{◌≡◌, ℕ, ◌+◌, ◌*◌, ◌/◌, ◌<◌, ◌≤◌, Bool, true, ℤ, pos, subst, mul-le-mul_right, mul-le-mul_left, arith}
 use Rattle.std.proofs.lemmas.Bool.Decides.{nat_tests}
 use Rattle.exact.specs.Pairs.{floor, ceiling}
 use Rattle.exact.proofs.Quotients.{floor_under, ceil_over, floor_least, floor_most, ceil_most}

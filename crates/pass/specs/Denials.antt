@@ -4,7 +4,6 @@ use Rattle.pass.specs.declared.denials.Field.{Field}
 use Rattle.pass.specs.declared.denials.Field.TheVariants.{Together, Pulses, DetectorTime, PulseTime, WallTemperature, VesselPressure, RodTemperature, DensitometerTemperature, DensitometerPressure, Density, MasterPulses, MasterTime}
 use Rattle.pass.specs.declared.denials.Device.{Device}
 use Rattle.pass.specs.declared.denials.Device.TheVariants.{Vessel, Densitometer, Master, Liquid, Mass}
-use Rattle.pass.specs.declared.denials.Fault.{Fault}
 use Rattle.pass.specs.declared.denials.Denial.{Denial}
 use Rattle.pass.specs.declared.denials.Denial.TheVariants.{Figure, Meter, Reference, Value}
 

@@ -1,4 +1,6 @@
 // One pass of a prover: its record, the counts in the gate, the masses and the values of the meter.
+#![tactic(auto)]
+
 pub mod acceptance;
 pub mod counting;
 pub mod denials;

@@ -7,7 +7,7 @@ pub returns : goal.returns
 returns c =
     let m = c.args.meter.now.pair in
     let r = c.args.reference.now.pair in
-    let value = near_same c.near_one_lem.ensures c.ratio.ensures.low c.ratio.ensures.high in
+    let value = near_same c.near_one.ensures c.ratio.ensures.low c.ratio.ensures.high in
     record {
       value = value;
       near = λ t. near_masses (nat_abs r.low) (nat_abs r.high) (nat_abs m.low) (nat_abs m.high) (omega (arith, ints)) (omega (arith, ints)) (sym value ∙ t);

@@ -1,4 +1,4 @@
-use Rattle.std.proofs.Common.{◌≡◌, ◌*◌, ◌<◌, ◌≤◌, pos, ap, ◌∙◌, mul-le-mul, mul-pos, arith}
+use Rattle.std.proofs.Common.{◌*◌, ◌<◌, ◌≤◌, mul-le-mul, mul-pos, arith}
 use Rattle.std.proofs.lemmas.Int.{ints}
 use Rattle.exact.proofs.Pairs.{holds_same}
 use Rattle.exact.proofs.Quotients.{floor_least, ceil_most}
@@ -14,14 +14,17 @@ quotient-requires c =
     let bottom : g.pulse_time * f.ten_thousandths ≤ 600000000 * 1000000000 = mul-le-mul g.counted.1 f.ranged.1 in
     record { some = some; small = (omega arith, omega arith); fits = omega arith }
 
-pub invariant-of-result : goal.invariant-of-result
-invariant-of-result c =
+pub invariant_of-result : goal.invariant_of-result
+invariant_of-result c =
     let g = c.args.self.now in
     let f = c.args.factor.now in
     let some : 0 < g.pulse_time * f.ten_thousandths = mul-pos g.counted.0 (omega arith) in
     let least = floor_least _ _ 10990000 some (mass_least c.product.result g.pulse_time f.ten_thousandths c.product.ensures.least f.ranged.1) in
     let most = ceil_most _ _ 800001000000 some (mass_most c.product.result g.pulse_time f.ten_thousandths c.product.ensures.most f.ranged.0) in
-    ((omega (arith, ints, c.quotient.ensures.low, least), omega (arith, ints, c.quotient.ensures.high, most)), (c.quotient.ensures.narrow, tt))
+    record {
+      ranged = (omega (arith, ints, c.quotient.ensures.low, least), omega (arith, ints, c.quotient.ensures.high, most));
+      narrow = c.quotient.ensures.narrow;
+    }
 
 pub returns : goal.returns
 returns c =

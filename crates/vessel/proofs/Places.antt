@@ -1,6 +1,5 @@
 -- The place of the first figure out of range, as a denial.
 use Rattle.std.proofs.Common.{◌≡◌, ℕ, ◌<◌, Bool, true, false, cond, sym, refl, ap, subst, arith}
-use Rattle.pass.specs.declared.denials.Denial.{Denial}
 use Rattle.pass.specs.declared.denials.Denial.TheVariants.{Figure}
 
 pub placed : {place q : ℕ} → 0 < place → q ≡ place → (0 < q) × (Figure place ≡ Figure q)

@@ -1,7 +1,6 @@
 -- What the temperature and pressure factors are worth, in whole numbers.
 use Rattle.std.specs.Prelude.{◌≡◌, ℕ, ◌+◌, ◌-◌, ◌*◌, ◌<◌, ◌≤◌, ℤ, pos, ◌+ℤ◌}
-use Rattle.std.proofs.Common.{arith, mul-pos, mul-le-mul, lit<}
-use borrow.Author.Differences.{up, down}
+use Rattle.std.proofs.Common.{arith, mul-pos, lit<}
 use Rattle.std.proofs.lemmas.Int.{ints}
 use Rattle.exact.specs.Fractions.{Fraction, nat, add, mul, div}
 use Rattle.exact.proofs.Worth.{Worth, worth_nat, worth_whole, worth_add, worth_neg, worth_mul, worth_div, worth_of}

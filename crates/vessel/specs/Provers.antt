@@ -1,5 +1,5 @@
 -- The pipe prover and the compact prover: which records they take, their exact volumes and their pairs. Assumes nothing.
-use Rattle.std.specs.Prelude.{◌≡◌, ℕ, ◌+◌, ◌-◌, ◌*◌, ◌<◌, Bool, true, false, cond, ◌&&◌, ℤ, pos, Ok, Err, Result, unsigned_abs}
+use Rattle.std.specs.Prelude.{◌≡◌, ℕ, ◌+◌, ◌-◌, ◌*◌, ◌<◌, Bool, cond, ◌&&◌, ℤ, pos, Ok, Err, Result, unsigned_abs}
 use Rattle.exact.specs.Fractions.{Fraction}
 use Rattle.exact.specs.Pairs.{floor, ceiling}
 use Rattle.exact.specs.Ends.{Ends}

@@ -1,8 +1,8 @@
 -- The pairs of the two provers: what they hold, where they lie and how wide they are. V is the certified volume, a and b the
 -- temperature factors times 10¹⁰, S the bottom and c the top of the pressure factor.
-use Rattle.std.specs.Prelude.{◌≡◌, ℕ, ◌+◌, ◌-◌, ◌*◌, ◌/◌, ◌<◌, ◌≤◌, ℤ, pos, ◌+ℤ◌}
-use Rattle.std.proofs.Common.{arith, mul-pos, mul-le-mul, mul-le-mul_left, mul-le-mul_right, le_of_mul-le-mul_right, lit<, le→leb}
-use Rattle.exact.specs.Fractions.{Fraction, whole, nat}
+use Rattle.std.specs.Prelude.{◌≡◌, ℕ, ◌+◌, ◌*◌, ◌<◌, ◌≤◌, ℤ, pos, ◌+ℤ◌}
+use Rattle.std.proofs.Common.{arith, mul-le-mul, mul-le-mul_left, mul-le-mul_right, le_of_mul-le-mul_right, lit<, le→leb}
+use Rattle.exact.specs.Fractions.{Fraction, whole}
 use Rattle.exact.specs.Figures.{number}
 use Rattle.exact.specs.Pairs.{Holds, floor, ceiling}
 use Rattle.exact.proofs.Worth.{Worth, worth_nat, worth_div, worth_le, worth_same, worth_of}

@@ -1,5 +1,5 @@
 -- How a steel vessel's volume goes with temperature and pressure. Assumes nothing.
-use Rattle.std.specs.Prelude.{ℕ, ℤ, pos}
+use Rattle.std.specs.Prelude.{ℕ, ℤ}
 use Rattle.exact.specs.Fractions.{Fraction, whole, nat, add, sub, mul, div}
 
 -- degrees Celsius above 20 °C, of a temperature in 0.01 °C

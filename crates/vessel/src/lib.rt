@@ -1,4 +1,6 @@
 // Vessels: what one means, and the pipe prover and the compact prover.
+#![tactic(auto)]
+
 pub mod compact;
 pub mod figures;
 pub mod opening;

@@ -4,8 +4,8 @@ use Rattle.vessel.specs.Provers.{stiffness, strained}
 use Rattle.vessel.specs.Volumes.{section_stiff, section_stiff_most, section_strain, compact_most}
 use Rattle.vessel.proofs.provers.CompactProver.under.Goals as goal
 
-pub overflow-mul-millionths : goal.overflow-mul-millionths
-overflow-mul-millionths c =
+pub overflow_mul-millionths : goal.overflow_mul-millionths
+overflow_mul-millionths c =
     let s = c.args.self.now.section in
     let stiff = section_stiff_most s in
     let top = compact_most c.args.millionths (strained s c.args.pressure) (stiffness s) c.requires.0 (section_strain s c.args.pressure c.requires.1) in

@@ -14,13 +14,13 @@ under-high-requires c =
     let high = compact_high c.args.self.now c.args.wall c.args.rod c.requires.0 c.requires.1.0 in
     (rw c.product-product.ensures (omega arith), c.requires.1.1)
 
-pub invariant-of-result : goal.invariant-of-result
-invariant-of-result c =
+pub invariant_of-result : goal.invariant_of-result
+invariant_of-result c =
     let rl : SFits w64 c.under-low.result.low = search rules in
     let rh : SFits w64 c.under-high.result.high = search rules in
     let low = rw c.product-product.ensures at c.under-low.ensures.low in
     let high = rw c.product-product.ensures at c.under-high.ensures.high in
-    simp to_z-of_z (rw (low, high) (record { le = le→leb _ _ (compact_ordered c.args.self.now c.args.wall c.args.rod c.args.pressure) }, tt))
+    simp to_z-of_z (rw (low, high) record { ordered = record { le = le→leb _ _ (compact_ordered c.args.self.now c.args.wall c.args.rod c.args.pressure) } })
 
 pub returns : goal.returns
 unfolding compact_ends

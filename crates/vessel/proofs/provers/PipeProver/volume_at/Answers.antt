@@ -4,8 +4,8 @@ use Rattle.vessel.specs.Provers.{stiffness, pipe_top, pipe_ends}
 use Rattle.vessel.specs.Volumes.{section_stiff, section_stiff_most, pipe_top_most}
 use Rattle.vessel.proofs.provers.PipeProver.volume_at.Goals as goal
 
-pub overflow-mul-stretched-2 : goal.overflow-mul-stretched-2
-overflow-mul-stretched-2 c =
+pub overflow_mul-stretched-2 : goal.overflow_mul-stretched-2
+overflow_mul-stretched-2 c =
     let v = c.args.self.now in
     let top = pipe_top_most v c.args.wall c.args.pressure c.requires.0 c.requires.1 in
     let stiff = section_stiff_most v.section in

@@ -1,5 +1,5 @@
 -- The linear liquid's factor in tenths of a step.
-use Rattle.std.specs.Prelude.{◌≡◌, ℕ, ◌+◌, ◌*◌, ◌≤◌, true, ℤ, pos, ◌+ℤ◌, unsigned_abs}
+use Rattle.std.specs.Prelude.{◌≡◌, ℕ, ◌+◌, ◌*◌, ◌≤◌, true, pos, ◌+ℤ◌, unsigned_abs}
 use Rattle.std.proofs.Common.{arith, mul-le-mul, lit<}
 use Rattle.std.proofs.lemmas.Int.{ints}
 use Rattle.exact.specs.Fractions.{Fraction, Same, nat, mul, div}

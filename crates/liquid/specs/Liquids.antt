@@ -1,5 +1,5 @@
 -- What a liquid means: an exact carry factor from the densitometer's conditions to the vessel's, and a pair in steps. Assumes nothing.
-use Rattle.std.specs.Prelude.{◌≡◌, true, false, ℤ, pos, ◌+ℤ◌, ◌≤ℤ◌, Ok, Err, Result}
+use Rattle.std.specs.Prelude.{◌≡◌, true, false, pos, ◌+ℤ◌, ◌≤ℤ◌, Ok, Err, Result}
 use Rattle.exact.specs.Fractions.{Fraction}
 use Rattle.exact.specs.Figures.{number}
 use Rattle.exact.specs.Pairs.{Holds, steps}

@@ -1,4 +1,6 @@
 // Liquids: the factor that carries a density from the densitometer's conditions to the vessel's.
+#![tactic(auto)]
+
 pub mod asking;
 pub mod carrying;
 pub mod conditions;

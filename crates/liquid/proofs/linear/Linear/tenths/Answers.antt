@@ -2,8 +2,8 @@ use Rattle.std.proofs.Common.{arith}
 use Rattle.liquid.specs.Linears.{parts_most}
 use Rattle.liquid.proofs.linear.Linear.tenths.Goals as goal
 
-pub overflow-sub-result : goal.overflow-sub-result
-overflow-sub-result c =
+pub overflow_sub-result : goal.overflow_sub-result
+overflow_sub-result c =
     let l = c.args.self.now in
     let a = c.args.at.now in
     let less = parts_most l.expansion l.compressibility a.wall_temperature a.densitometer_pressure l.expanding l.compressible a.temperate.0 a.pressed.1 in

@@ -8,7 +8,6 @@ use Rattle.pass.specs.Values.{weighable}
 use Rattle.pass.specs.declared.readings.Record.{Record}
 use Rattle.pass.specs.declared.denials.Field.{Field}
 use Rattle.pass.specs.declared.denials.Field.TheVariants.{Together, DetectorTime, MasterPulses, MasterTime}
-use Rattle.pass.specs.declared.denials.Device.{Device}
 use Rattle.pass.specs.declared.denials.Device.TheVariants.{Master, Mass}
 use Rattle.pass.specs.declared.denials.Fault.{Fault}
 use Rattle.pass.specs.declared.denials.Denial.{Denial}

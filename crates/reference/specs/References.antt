@@ -1,5 +1,5 @@
 -- What every reference owes. Assumes nothing.
-use Rattle.std.specs.Prelude.{◌≡◌, ℕ, ◌+◌, ◌/◌, ◌≤◌, Bool, true, false, ℤ, pos, ◌≤ℤ◌, Ok, Err, Result, unsigned_abs}
+use Rattle.std.specs.Prelude.{◌≡◌, ◌+◌, ◌/◌, ◌≤◌, Bool, true, false, pos, ◌≤ℤ◌, Ok, Err, Result, unsigned_abs}
 use Rattle.exact.specs.Fractions.{Fraction, whole}
 use Rattle.exact.specs.Figures.{number}
 use Rattle.exact.specs.Pairs.{Holds}

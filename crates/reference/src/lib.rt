@@ -1,4 +1,6 @@
 // References: devices that give the mass that went through the meter in a pass.
+#![tactic(auto)]
+
 pub mod master;
 pub mod reference;
 pub mod weighing;

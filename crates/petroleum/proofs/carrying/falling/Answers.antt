@@ -3,8 +3,8 @@ use Rattle.expsum.proofs.Bounds.{sized}
 use Rattle.petroleum.specs.Rounded.{falling}
 use Rattle.petroleum.proofs.carrying.falling.Goals as goal
 
-pub overflow-sub-result : goal.overflow-sub-result
-overflow-sub-result c =
+pub overflow_sub-result : goal.overflow_sub-result
+overflow_sub-result c =
     let s = (sized c.args.size (omega (arith, c.requires.small))).least in
     omega (arith, c.sum-parts.ensures.even, c.sum-parts.ensures.odd)
 

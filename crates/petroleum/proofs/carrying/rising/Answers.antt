@@ -5,8 +5,8 @@ use Rattle.petroleum.specs.Rounded.{rising}
 use Rattle.petroleum.specs.Elastics.{sums_most}
 use Rattle.petroleum.proofs.carrying.rising.Goals as goal
 
-pub overflow-add-result : goal.overflow-add-result
-overflow-add-result c =
+pub overflow_add-result : goal.overflow_add-result
+overflow_add-result c =
     let m = sums_most c.args.size (terms c.args.size 9).even (terms c.args.size 9).odd c.requires.small (sized c.args.size (omega (arith, c.requires.small))) in
     record { fits = omega (arith, c.sum-parts.ensures.even, c.sum-parts.ensures.odd) }
 

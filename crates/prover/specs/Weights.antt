@@ -1,6 +1,6 @@
 -- The product of a volume's pair, a density and a carry factor's pair: v to w the volume, c to d the factor in steps, ρ the density.
-use Rattle.std.specs.Prelude.{◌≡◌, ℕ, ◌+◌, ◌-◌, ◌*◌, ◌/◌, ◌<◌, ◌≤◌, Bool, true, false, cond, ◌&&◌, ℤ, pos, ◌≤ℤ◌, Err, unsigned_abs, refl}
-use Rattle.std.proofs.Common.{sym, subst, ap, ◌∙◌, arith, mul-le-mul, mul-le-mul_left, mul-le-mul_right, le_of_mul-le-mul_right, lit<, le→leb}
+use Rattle.std.specs.Prelude.{◌≡◌, ℕ, ◌+◌, ◌*◌, ◌/◌, ◌<◌, ◌≤◌, Bool, true, false, cond, ◌&&◌, ℤ, pos, ◌≤ℤ◌, Err, unsigned_abs, refl}
+use Rattle.std.proofs.Common.{sym, subst, ap, ◌∙◌, arith, mul-le-mul, mul-le-mul_left, mul-le-mul_right, le_of_mul-le-mul_right, lit<}
 use Rattle.std.proofs.lemmas.Int.{ints}
 use Rattle.exact.specs.Fractions.{Fraction, Le, whole, nat, mul}
 use Rattle.exact.specs.Figures.{number}

@@ -1,5 +1,5 @@
 -- Roots of quotients in whole numbers: a bound of the quotient's floor or ceiling is one of the quotient.
-use Rattle.std.proofs.Common.{◌≡◌, ℕ, ◌+◌, ◌-◌, ◌*◌, ◌/◌, ◌<◌, ◌≤◌, ap, mul-le-mul_right, arith}
+use Rattle.std.proofs.Common.{◌≡◌, ℕ, ◌+◌, ◌*◌, ◌/◌, ◌<◌, ◌≤◌, ap, mul-le-mul_right, arith}
 use Rattle.exact.specs.Pairs.{ceiling}
 use Rattle.exact.proofs.Quotients.{floor_under, ceil_over}
 

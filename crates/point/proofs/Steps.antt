@@ -1,5 +1,5 @@
 -- Ends in steps that are not negative, and what figures they hold.
-use Rattle.std.proofs.Common.{ℕ, ◌-◌, ◌*◌, ◌<◌, ◌⊎◌, pos, inl, inr, arith, lit<}
+use Rattle.std.proofs.Common.{ℕ, ◌*◌, ◌⊎◌, pos, inl, inr, arith, lit<}
 use Rattle.exact.specs.Fractions.{Fraction, Le, Lt, Same, nat, neg, mul}
 use Rattle.exact.specs.Figures.{root}
 use Rattle.exact.specs.Pairs.{Holds, steps}

@@ -1,5 +1,5 @@
 -- Rows of two ends, in steps, and the exact values that they hold. Assumes nothing.
-use Rattle.std.specs.Prelude.{List, [], ◌∷◌, ℤ, pos, ◌+ℤ◌, ◌≤ℤ◌}
+use Rattle.std.specs.Prelude.{List, [], ◌∷◌, pos, ◌+ℤ◌, ◌≤ℤ◌}
 use Rattle.exact.specs.Fractions.{Fraction}
 use Rattle.exact.specs.Figures.{number}
 use Rattle.exact.specs.Pairs.{Holds, steps}

@@ -1,4 +1,6 @@
 // One flow point: the mean of its values, their scatter, the scatter of the mean and the random limit.
+#![tactic(auto)]
+
 pub mod bounds;
 pub mod deviations;
 pub mod ends;

@@ -1,4 +1,6 @@
 // Reads passes from standard input, one to a line, and prints what they give or why they are denied.
+#![tactic(auto)]
+
 // A line is a word, some figures and the eleven fields of the record, as whole numbers with one space between:
 //     master               the meter's set factor, the master's factor            the sheet of the pass
 //     pipe                 V0, D, s, E and α of a pipe prover                     its volume in the pass

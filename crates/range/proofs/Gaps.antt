@@ -1,5 +1,5 @@
 -- The half-gap of two levels: y lies from a to A, z from p to P, in steps.
-use Rattle.std.proofs.Common.{◌≡◌, ℕ, ◌+◌, ◌-◌, ◌*◌, ◌<◌, ◌≤◌, ◌⊎◌, pos, sym, subst, inl, inr, mul-le-mul_left, arith, lit<}
+use Rattle.std.proofs.Common.{◌≡◌, ℕ, ◌+◌, ◌*◌, ◌<◌, ◌≤◌, ◌⊎◌, pos, sym, subst, inl, inr, mul-le-mul_left, arith, lit<}
 use Rattle.std.proofs.lemmas.Bool.{cases_lt}
 use Rattle.exact.specs.Fractions.{Fraction, Le, Lt, nat, add, sub, mul}
 use Rattle.exact.specs.Figures.{number}

@@ -1,4 +1,6 @@
 // The range that flow points span: the largest scatter of a mean and random limit, the systematic limit and the error.
+#![tactic(auto)]
+
 pub mod deciding;
 pub mod error;
 pub mod figures;

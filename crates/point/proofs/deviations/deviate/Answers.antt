@@ -7,7 +7,7 @@ use Rattle.point.proofs.deviations.deviate.Goals as goal
 
 pub divisor-requires : goal.divisor-requires
 divisor-requires g c =
-    let k = g.row.V-Value.kind in
+    let k = g.V.Value.kind in
     let level = c.args.level in
     record {
       range = (value_least k c.args.mean.low level.low c.requires.lowered.0 level.ranged.0, value_most k c.args.mean.high level.high c.requires.lowered.1 level.ranged.2);
@@ -16,7 +16,7 @@ divisor-requires g c =
 
 pub returns : goal.returns
 returns g c =
-    let k = g.row.V-Value.kind in
+    let k = g.V.Value.kind in
     let rows = c.args.rows.now in
     let level = c.args.level in
     let low = c.requires.lowered.0 in

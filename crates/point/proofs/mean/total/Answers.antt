@@ -11,18 +11,18 @@ abbrev nil : Ends
 nil = record { low = pos 0; high = pos 0 }
 
 pub read-level-requires : goal.read-level-requires
-read-level-requires g c = let r = All-get_or (Fits g.row.V-Value.kind) c.args.rows.now c.loop-row.row-index nil c.loop-row-test.true c.requires.fits in search rules
+read-level-requires g c = let r = All-get_or (Fits g.V.Value.kind) c.args.rows.now c.loop-row.row-index nil c.loop-row-test.true c.requires.fits in search rules
 
 pub loop-row-preserved : goal.loop-row-preserved
 loop-row-preserved g c =
-    let low = sum_by_more (λ e. raised g.row.V-Value.kind e.low) c.args.rows.now c.loop-row.row-index nil c.loop-row-test.true in
-    let high = sum_by_more (λ e. raised g.row.V-Value.kind e.high) c.args.rows.now c.loop-row.row-index nil c.loop-row-test.true in
+    let low = sum_by_more (λ e. raised g.V.Value.kind e.low) c.args.rows.now c.loop-row.row-index nil c.loop-row-test.true in
+    let high = sum_by_more (λ e. raised g.V.Value.kind e.high) c.args.rows.now c.loop-row.row-index nil c.loop-row-test.true in
     (cc, cc, omega arith, omega arith)
 
 pub returns : goal.returns
 returns g c =
     let all = take_all c.loop-row.row-index c.args.rows.now c.loop-row-test.false in
     record {
-      low = c.loop-row.invariant.0 ∙ ap (sum_by (λ e. raised g.row.V-Value.kind e.low)) all;
-      high = c.loop-row.invariant.1 ∙ ap (sum_by (λ e. raised g.row.V-Value.kind e.high)) all;
+      low = c.loop-row.invariant.0 ∙ ap (sum_by (λ e. raised g.V.Value.kind e.low)) all;
+      high = c.loop-row.invariant.1 ∙ ap (sum_by (λ e. raised g.V.Value.kind e.high)) all;
     }

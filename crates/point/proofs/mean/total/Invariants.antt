@@ -4,7 +4,7 @@ use Rattle.point.proofs.mean.total.Given as goal
 
 abbrev pub invariant-loop-row : goal.invariant-loop-row
 invariant-loop-row g l =
-    (l.low ≡ sum_by (λ e. raised g.row.V-Value.kind e.low) (take l.row-index l.rows))
-    × (l.high ≡ sum_by (λ e. raised g.row.V-Value.kind e.high) (take l.row-index l.rows))
+    (l.low ≡ sum_by (λ e. raised g.V.Value.kind e.low) (take l.row-index l.rows))
+    × (l.high ≡ sum_by (λ e. raised g.V.Value.kind e.high) (take l.row-index l.rows))
     × (l.low ≤ l.row-index * 111111112)
     × (l.high ≤ l.row-index * 111111112)

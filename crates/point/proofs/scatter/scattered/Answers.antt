@@ -8,8 +8,8 @@ use Rattle.point.proofs.scatter.scattered.Goals as goal
 pub paired-requires : goal.paired-requires
 paired-requires c =
     let d = c.args.deviations.now in
-    let r = c.relative-root-root.result in
-    let e = c.relative-root-root.ensures in
+    let r = c.relative_root-root.result in
+    let e = c.relative_root-root.ensures in
     let near = scatter_narrow d.passes d.least d.most r.low r.high d.divisor.low d.divisor.high d.counted.0 d.divisor.ranged.0 d.divisor.ranged.1 d.divisor.narrow d.small.0 (c.requires 1000) e.under e.near_low e.near_high in
     record {
       ordered = root_ordered r.low r.high (d.passes - 1) d.divisor.low d.divisor.high d.least d.most (omega arith) d.divisor.ranged.0 d.divisor.ranged.1 d.ordered e.under e.over;
@@ -19,8 +19,8 @@ paired-requires c =
 pub returns : goal.returns
 returns c =
     let d = c.args.deviations.now in
-    let r = c.relative-root-root.result in
-    let e = c.relative-root-root.ensures in
+    let r = c.relative_root-root.result in
+    let e = c.relative_root-root.ensures in
     let p = c.paired.ensures in
     let near = scatter_narrow d.passes d.least d.most r.low r.high d.divisor.low d.divisor.high d.counted.0 d.divisor.ranged.0 d.divisor.ranged.1 d.divisor.narrow d.small.0 (c.requires 1000) e.under e.near_low e.near_high in
     record {

@@ -5,17 +5,17 @@ use Rattle.point.proofs.working.work.Goals as goal
 pub returns : goal.returns
 returns g c = record {
   holds = λ xs h.
-      let k = g.row.V-Value.kind in
-      let level = c.mean-level-level.ensures.holds xs h in
+      let k = g.V.Value.kind in
+      let level = c.mean_level-level.ensures.holds xs h in
       let d = c.deviate-deviations.ensures.holds xs h level in
       let n = sym (held_length h) in
       let m = n ∙ sym c.deviate-deviations.ensures.passes in
-      let s0 = c.mean-scatter-of-mean.ensures.holds k xs m d in
+      let s0 = c.mean_scatter-of_mean.ensures.holds k xs m d in
       record {
         mean = value_holds k _ _ _ _ _ c.lowered-mean.ensures.low c.lowered-mean.ensures.high level;
         level = level;
         scatter = c.scattered.ensures.holds k xs m d;
         of_mean = s0;
-        random = c.random-limit.ensures.holds k xs n s0;
+        random = c.random_limit.ensures.holds k xs n s0;
       };
 }

@@ -12,5 +12,5 @@ returns g c =
       λ xss h.
           let z = begun c.args.points.now xss (omega arith) h in
           let held = subst (λ (yss : List (List Fraction)). AllHeld c.args.points.now yss) z.2 h in
-          subst (λ (yss : List (List Fraction)). RangeHolds g.row.V-Value.kind yss c.args.limits.now c.judge.result) (sym z.2) (c.judge.ensures.holds g.row.V-Value.kind z.0 z.1 (e.2 z.0 z.1 held)),
+          subst (λ (yss : List (List Fraction)). RangeHolds g.V.Value.kind yss c.args.limits.now c.judge.result) (sym z.2) (c.judge.ensures.holds g.V.Value.kind z.0 z.1 (e.2 z.0 z.1 held)),
     )

@@ -8,8 +8,8 @@ abbrev pub invariant-loop-place : goal.invariant-loop-place
 invariant-loop-place g l =
     (l.place < length l.points)
     × Sound l.reach
-    × AllWorkable g.row.V-Value.kind (drop l.place l.points)
-    × ((xs : List Fraction) (xss : List (List Fraction)) → AllHeld (drop l.place l.points) (xs ∷ xss) → Reaches g.row.V-Value.kind xs xss l.reach)
+    × AllWorkable g.V.Value.kind (drop l.place l.points)
+    × ((xs : List Fraction) (xss : List (List Fraction)) → AllHeld (drop l.place l.points) (xs ∷ xss) → Reaches g.V.Value.kind xs xss l.reach)
 
 abbrev pub decreases-loop-place : goal.decreases-loop-place
 decreases-loop-place g l = l.place

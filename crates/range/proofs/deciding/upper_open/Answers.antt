@@ -2,8 +2,8 @@ use Rattle.std.proofs.Common.{arith}
 use Rattle.range.proofs.Edges.{near_upper, near_lower, not_random}
 use Rattle.range.proofs.deciding.upper_open.Goals as goal
 
-pub returns-then-systematic-of-mean : goal.returns-then-systematic-of-mean
-returns-then-systematic-of-mean c = λ θ² s² h k.
+pub returns-then-systematic-of_mean : goal.returns-then-systematic-of_mean
+returns-then-systematic-of_mean c = λ θ² s² h k.
     let t = c.args.systematic in
     let s = c.args.of_mean in (
       near_upper t.low t.high s.low s.high θ² s² h k c.requires.systematic.near c.requires.of_mean.near (omega arith) (omega arith),

@@ -8,8 +8,8 @@ loop-place-init c = (omega arith, c.first-reach.ensures.sound, last_reach c.args
 pub loop-place-preserved : goal.loop-place-preserved
 loop-place-preserved c = (
   omega arith,
-  c.further_reach.ensures.sound,
-  further_reach c.args.points.now c.loop-place.place c.index-points-place-in-loop-place.result c.loop-place.reach c.further_reach.result c.loop-place-test.true c.loop-place.invariant.0 c.index-points-place-in-loop-place.is c.loop-place.invariant.2 c.further_reach.ensures.holds,
+  c.further-reach.ensures.sound,
+  further_reach c.args.points.now c.loop-place.place c.index-points-place-in-loop-place.result c.loop-place.reach c.further-reach.result c.loop-place-test.true c.loop-place.invariant.0 c.index-points-place-in-loop-place.is c.loop-place.invariant.2 c.further-reach.ensures.holds,
 )
 
 pub returns : goal.returns

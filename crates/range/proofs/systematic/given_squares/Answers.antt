@@ -4,8 +4,8 @@ use Rattle.std.proofs.lemmas.List.{take_all}
 use Rattle.std.proofs.lemmas.List.Sums.{sum_by_more}
 use Rattle.range.proofs.systematic.given_squares.Goals as goal
 
-pub overflow-add-sum : goal.overflow-add-sum
-overflow-add-sum c =
+pub overflow_add-sum : goal.overflow_add-sum
+overflow_add-sum c =
     let g = get_or c.args.limits.now c.loop-limit.limit-index 0 in
     let s = All-get_or (λ g. g ≤ 1000000) c.args.limits.now c.loop-limit.limit-index 0 c.loop-limit-test.true c.requires.small in
     let q : g * g ≤ 1000000 * 1000000 = mul-le-mul s s in

@@ -14,5 +14,5 @@ returns c = record {
     least = (part 5 100, (part 4 100, part 1 100, (λ _. record { le = lit≤ tt }), (λ _. record { le = lit≤ tt }), record { le = lit≤ tt }), record { le = lit≤ tt });
     most = (part 5 100, (part 4 100, part 1 100, (record { le = lit≤ tt }, record { le = lit≤ tt }), (record { le = lit≤ tt }, record { le = lit≤ tt }), record { le = lit≤ tt }), record { le = lit≤ tt });
   };
-  systematic-error = record { least = λ _. record { le = lit≤ tt }; most = (record { le = lit≤ tt }, record { le = lit≤ tt }) };
+  systematic_error = record { least = λ _. record { le = lit≤ tt }; most = (record { le = lit≤ tt }, record { le = lit≤ tt }) };
 }

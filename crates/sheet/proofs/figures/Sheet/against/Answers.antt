@@ -6,7 +6,6 @@ use Rattle.exact.proofs.Pairs.{holds_ends}
 use Rattle.pass.specs.Meters.{meter_mass}
 use Rattle.pass.specs.declared.masses.CountedMass.{CountedMass}
 use Rattle.pass.specs.declared.masses.ReferenceMass.{ReferenceMass}
-use Rattle.pass.specs.declared.masses.Masses.{Masses}
 use Rattle.exact.specs.declared.pair.Pair.{Pair}
 use Rattle.pass.proofs.Widths.{near_same}
 use Rattle.sheet.proofs.Stands.{within_same, answered, quotient_same}
@@ -19,10 +18,10 @@ returns g c =
     let set = c.args.meter.now.factor.ten_thousandths in
     let mass = g.R.Reference.mass s r in
     let answer = g.R.Reference.answer s r in
-    let counted = c.in-ok-counted.ensures in
+    let counted = c.in_ok-counted.ensures in
     let weighed = answered (g.R.Reference.takes s r) answer (g.R.Reference.fault s r) c.in-Ok.mass c.in-Ok.ensures in
     let weighs = g.met.R.Reference.good s r weighed.0 in
-    let accepted = c.in-ok-masses.ensures in
+    let accepted = c.in_ok-masses.ensures in
     let meter = subst (λ (m : CountedMass). Holds whole m.pair.low m.pair.high (number (meter_mass set r))) (sym accepted.1) counted.3 in
     let reference = subst (λ (m : ReferenceMass). Holds whole m.pair.low m.pair.high (number mass)) (sym accepted.2) (holds_ends weighed.1.low weighed.1.high weighs.holds) in
     let same = c.of.ensures.same in
@@ -31,7 +30,7 @@ returns g c =
       weighed.0,
       sym (near_same (sym accepted.0) (quotient_same floor weighed.1.low counted.2) (quotient_same ceiling weighed.1.high counted.1)),
       record {
-        count = within_same same.0 c.in-ok-count.ensures.1 c.in-ok-count.ensures.2;
+        count = within_same same.0 c.in_ok-count.ensures.1 c.in_ok-count.ensures.2;
         meter = within_same (same.1 ∙ ap (λ (m : CountedMass). m.pair) accepted.1) counted.3 counted.4;
         reference = record { low = ap (λ (p : Pair). p.low) ends ∙ weighed.1.low; high = ap (λ (p : Pair). p.high) ends ∙ weighed.1.high };
         weighs = weighs;

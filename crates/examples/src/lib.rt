@@ -1,7 +1,6 @@
 // Worked examples, each proved safe and then run.
 #![tactic(auto)]
 
-
 #[cfg(test)]
 mod passes {
     use pass::denials::{Denial, Field};

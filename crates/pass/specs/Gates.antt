@@ -17,7 +17,7 @@ interpolated pulses detector pulse = div (mul (whole pulses) (whole detector)) (
 unfoldable pub mass_of : ℤ → Fraction → Fraction
 mass_of factor count = div (mul (nat 10000000000000) count) (whole factor)
 
--- that mass rounded down and up to whole milligrams, in naturals: 10¹³·N·Td/(Tp-as-K)
+-- that mass rounded down and up to whole milligrams, in naturals: 10¹³·N·Td/(Tp·K)
 abbrev pub mass_low : ℕ → ℕ → ℕ → ℕ → ℕ
 mass_low factor pulses detector pulse = floor (10000000000000 * (pulses * detector)) (pulse * factor)
 

@@ -35,7 +35,7 @@ impl Factor {
 }
 
 impl Gate {
-    /// N.Td, the top of the interpolated count; its bottom is Tp.
+    /// N·Td, the top of the interpolated count; its bottom is Tp.
     fn product(&self) -> u128
         ensures value { result ≡ self.now.pulses * self.now.detector_time }
         ensures least { 1099 * self.now.pulse_time ≤ result }

@@ -2,7 +2,7 @@
 // Temperatures here are in 0.01 °C above −10 °C, so that 15 °C is 2,500; pressures are in kPa.
 ghost use Rattle.std.specs.Prelude.{◌≡◌, ◌+◌, ◌*◌, ◌≤◌};
 ghost use Rattle.petroleum.specs.Exponential.{figures, exponential_factor, ExponentialExample};
-ghost use Rattle.petroleum.specs.Rounded.{rising as rising_of, falling as falling_of, slope as slope_of, straight as straight_of, bent as bent_of, thermal_units, over_density_lem, beside_density_lem, elastic_rising_lem, elastic_falling_lem, elastic_units, carried as Carried_of, exponential_answer};
+ghost use Rattle.petroleum.specs.Rounded.{rising as rising_of, falling as falling_of, slope as slope_of, straight as straight_of, bent as bent_of, thermal_units, over_density_lem, beside_density_lem, elastic_rising_lem, elastic_falling_lem, elastic_units, carried as carried_of, exponential_answer};
 ghost use Rattle.petroleum.specs.Exponentials.{exponential_carries};
 
 use crate::exponential::Exponential;
@@ -138,7 +138,7 @@ impl Exponential {
 
     /// The carry factor in steps, rounded down.
     fn carried(&self, at: &Conditions) -> u64
-        ensures value { result ≡ Carried_of self.now at.now.densitometer_temperature at.now.densitometer_pressure at.now.wall_temperature at.now.vessel_pressure }
+        ensures value { result ≡ carried_of self.now at.now.densitometer_temperature at.now.densitometer_pressure at.now.wall_temperature at.now.vessel_pressure }
         ensures range { (83900000 ≤ result) × (result ≤ 119100000) }
     {
         let thermal = self.thermal(at.wall_temperature);

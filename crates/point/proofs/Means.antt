@@ -1,6 +1,6 @@
 -- The mean of values that rows hold, worked out on their levels.
 use Rattle.std.proofs.Common.{◌≡◌, ℕ, suc, ◌+◌, ◌*◌, ◌<◌, ◌≤◌, List, [], ◌∷◌, length, ℤ, pos, ◌+ℤ◌, sum_by, refl, ap, subst, arith, lit<}
-use Rattle.std.specs.List.{AllByRecursion as All}
+use Rattle.std.specs.List.{AllByRecursion}
 use Rattle.std.proofs.lemmas.Int.{ints}
 use Rattle.std.proofs.lemmas.List.Sums.{sum_by-cons}
 use Rattle.exact.specs.Fractions.{Fraction, Le, Same, nat, add, mul, div}
@@ -84,7 +84,7 @@ pub held_length : {es : List Ends} {xs : List Fraction} → Held es xs → lengt
 held_length none = refl
 held_length (more h t) = ap suc (held_length t)
 
-sum_least : (k : Kind) (es : List Ends) (xs : List Fraction) → All (Fits k) es → Held es xs → Le (steps (pos (sum_by (λ e. raised k e.low) es))) (level_sum k (length xs) (sum xs))
+sum_least : (k : Kind) (es : List Ends) (xs : List Fraction) → AllByRecursion (Fits k) es → Held es xs → Le (steps (pos (sum_by (λ e. raised k e.low) es))) (level_sum k (length xs) (sum xs))
 unfolding sum
 sum_least k _ _ f none = le_trans (worth_le (worth_step 0) (worth_nat 0) (omega arith)) (same_le (same_sym (sum_none k)))
 sum_least k _ _ f (more {e} {x} {es} {xs} h t) =
@@ -92,7 +92,7 @@ sum_least k _ _ f (more {e} {x} {es} {xs} h t) =
     (le_trans (same_le (same_sym (step_add (raised k e.low) (sum_by (λ e. raised k e.low) es))))
     (le_trans (add_mono (level_least k e.low (raised k e.low) x (level_range k e f.0).0 h.least) (sum_least k es xs f.1 t)) (same_le (sum_more k (length xs) x (sum xs)))))
 
-sum_most : (k : Kind) (es : List Ends) (xs : List Fraction) → All (Fits k) es → Held es xs → Le (level_sum k (length xs) (sum xs)) (steps (pos (sum_by (λ e. raised k e.high) es)))
+sum_most : (k : Kind) (es : List Ends) (xs : List Fraction) → AllByRecursion (Fits k) es → Held es xs → Le (level_sum k (length xs) (sum xs)) (steps (pos (sum_by (λ e. raised k e.high) es)))
 unfolding sum
 sum_most k _ _ f none = le_trans (same_le (sum_none k)) (worth_le (worth_nat 0) (worth_step 0) (omega arith))
 sum_most k _ _ f (more {e} {x} {es} {xs} h t) =
@@ -112,7 +112,7 @@ mean_level F xs o =
     go p m b n = omega arith
 
 -- the mean's level lies between the mean of the lower ends rounded down and that of the upper ends rounded up
-pub mean_holds : (k : Kind) (es : List Ends) (xs : List Fraction) (l h : ℕ) → All (Fits k) es → Held es xs → 0 < length es
+pub mean_holds : (k : Kind) (es : List Ends) (xs : List Fraction) (l h : ℕ) → AllByRecursion (Fits k) es → Held es xs → 0 < length es
     → l ≡ floor (sum_by (λ e. raised k e.low) es) (length es) → h ≡ ceiling (sum_by (λ e. raised k e.high) es) (length es) → Holds steps (pos l) (pos h) (number (level k (mean xs)))
 mean_holds k es xs l h f t o a b =
     let n = held_length t in
@@ -131,7 +131,7 @@ mean_holds k es xs l h f t o a b =
     go_most h n s i = worth_le (worth_step s) (worth_mul (worth_step h) (worth_nat n)) (omega arith)
 
 -- the sums of n rows' levels, between n times the least and n times the greatest level, and their mean's pair
-pub sums_range : (k : Kind) (es : List Ends) → All (Fits k) es
+pub sums_range : (k : Kind) (es : List Ends) → AllByRecursion (Fits k) es
     → (length es * 90000000 ≤ sum_by (λ e. raised k e.low) es) × (sum_by (λ e. raised k e.low) es ≤ sum_by (λ e. raised k e.high) es)
     × (sum_by (λ e. raised k e.high) es ≤ length es * 111111112) × (sum_by (λ e. raised k e.high) es ≤ sum_by (λ e. raised k e.low) es + length es * 300)
 sums_range k [] f = (omega arith, omega arith, omega arith, omega arith)

@@ -1,6 +1,6 @@
 -- The sum of squared deviations of values that rows hold, worked out on their levels.
 use Rattle.std.proofs.Common.{◌≡◌, ℕ, ◌+◌, ◌*◌, ◌<◌, ◌≤◌, ◌⊎◌, List, pos, sum_by, sym, subst, inl, inr, arith}
-use Rattle.std.specs.List.{AllByRecursion as All}
+use Rattle.std.specs.List.{AllByRecursion}
 use Rattle.std.proofs.lemmas.List.Sums.{sum_by-cons}
 use Rattle.std.proofs.lemmas.Bool.{cases_lt}
 use Rattle.exact.specs.Fractions.{Fraction, Le, Lt, Same, nat, add, neg, sub, mul}
@@ -69,7 +69,7 @@ farthest_square a A p P y m d e h k =
 squares_add : (a b : ℕ) → Same (add (squares a) (squares b)) (squares (a + b))
 squares_add a b = worth_same (worth_add (worth_squares a) (worth_squares b)) (worth_squares (a + b)) (omega arith)
 
-pub spread_least : (k : Kind) (es : List Ends) (xs : List Fraction) (m : Fraction) (p P : ℕ) → p ≤ P → All (Fits k) es → Held es xs → Holds steps (pos p) (pos P) (number (level k m))
+pub spread_least : (k : Kind) (es : List Ends) (xs : List Fraction) (m : Fraction) (p P : ℕ) → p ≤ P → AllByRecursion (Fits k) es → Held es xs → Holds steps (pos p) (pos P) (number (level k m))
     → Le (squares (sum_by (nearest² k p P) es)) (spread m xs)
 unfolding spread
 spread_least k _ _ m p P o f none c = worth_le (worth_squares 0) (worth_nat 0) (omega arith)
@@ -80,7 +80,7 @@ spread_least k _ _ m p P o f (more {e} {x} {es} {xs} h t) c =
     (add_mono (nearest_square (raised k e.low) (raised k e.high) p P (level k x) (level k m) (sub x m) (level_sub k x m) o r.3 (level_holds k e.low e.high _ _ x r.0 r.1 h) c)
     (spread_least k es xs m p P o f.1 t c)))
 
-pub spread_most : (k : Kind) (es : List Ends) (xs : List Fraction) (m : Fraction) (p P : ℕ) → All (Fits k) es → Held es xs → Holds steps (pos p) (pos P) (number (level k m))
+pub spread_most : (k : Kind) (es : List Ends) (xs : List Fraction) (m : Fraction) (p P : ℕ) → AllByRecursion (Fits k) es → Held es xs → Holds steps (pos p) (pos P) (number (level k m))
     → Le (spread m xs) (squares (sum_by (farthest² k p P) es))
 unfolding spread
 spread_most k _ _ m p P f none c = worth_le (worth_nat 0) (worth_squares 0) (omega arith)

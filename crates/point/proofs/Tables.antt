@@ -1,6 +1,6 @@
 -- A rule of a table, proved at all of its entries by one test that antt computes.
 use Rattle.std.proofs.Common.{◌≡◌, ℕ, ◌<◌, ◌≤◌, Bool, true, ◌&&◌, leb, List, [], ◌∷◌, length, get_or}
-use Rattle.std.specs.List.{AllByRecursion as All}
+use Rattle.std.specs.List.{AllByRecursion}
 use Rattle.std.proofs.ByRecursion.{All-get_or}
 use Rattle.std.proofs.lemmas.Bool.{and_parts, leb-true}
 
@@ -9,7 +9,7 @@ abbrev between : ℕ → ℕ → List ℕ → Bool
 between a b [] = true
 between a b (x ∷ xs) = (leb a x && leb x b) && between a b xs
 
-all_between : (a b : ℕ) (xs : List ℕ) → between a b xs ≡ true → All (λ x. (a ≤ x) × (x ≤ b)) xs
+all_between : (a b : ℕ) (xs : List ℕ) → between a b xs ≡ true → AllByRecursion (λ x. (a ≤ x) × (x ≤ b)) xs
 all_between a b [] h = tt
 all_between a b (x ∷ xs) h =
     let p = and_parts (leb a x && leb x b) (between a b xs) h in

@@ -2,7 +2,7 @@
 use Rattle.std.proofs.Common.{◌≡◌, ℕ, suc, ◌+◌, ◌-◌, ◌*◌, ◌/◌, ◌<◌, ◌≤◌, List, [], ◌∷◌, length, sum_by, mul-le-mul_right, mul-le-mul, mul-le-mul_left, mul-pos, le_of_mul-le-mul_right, arith}
 use native.Mathlib.Decide.{dec_le}
 use native.Mathlib.Nat.{le_of_mul-le-mul_left}
-use Rattle.std.specs.List.{AllByRecursion as All}
+use Rattle.std.specs.List.{AllByRecursion}
 use Rattle.std.proofs.lemmas.List.Sums.{sum_by-cons}
 use Rattle.pass.specs.Kinds.{Kind}
 use Rattle.point.specs.declared.ends.Ends.{Ends}
@@ -17,7 +17,7 @@ reach : (a A p P : ℕ) → A ≤ a + 300 → P ≤ p + 301 → farthest a A p P
 reach a A p P h k = omega arith
 
 -- the inequality of one deviation, added up over the rows
-pub all_stretched : (k s : ℕ) (kind : Kind) (es : List Ends) (p P : ℕ) → P ≤ p + 301 → All (Fits kind) es
+pub all_stretched : (k s : ℕ) (kind : Kind) (es : List Ends) (p P : ℕ) → P ≤ p + 301 → AllByRecursion (Fits kind) es
     → (k * s) * sum_by (farthest² kind p P) es
     ≤ (k * (s + k)) * sum_by (nearest² kind p P) es + (s * (s + k)) * (length es * (601 * 601))
 all_stretched k s kind [] p P h f = omega arith
@@ -161,7 +161,7 @@ of_mean_narrow n D E l H x X o p r h d f u v g =
 nearest_farthest : (a A p P : ℕ) → a ≤ A → p ≤ P → nearest a A p P ≤ farthest a A p P
 nearest_farthest a A p P h k = omega arith
 
-sums_ordered : (k : Kind) (es : List Ends) (p P : ℕ) → p ≤ P → All (Fits k) es → sum_by (nearest² k p P) es ≤ sum_by (farthest² k p P) es
+sums_ordered : (k : Kind) (es : List Ends) (p P : ℕ) → p ≤ P → AllByRecursion (Fits k) es → sum_by (nearest² k p P) es ≤ sum_by (farthest² k p P) es
 sums_ordered k [] p P h f = omega arith
 sums_ordered k (e ∷ es) p P h f =
     let r = level_range k e f.0 in
@@ -170,7 +170,7 @@ sums_ordered k (e ∷ es) p P h f =
     let m = sum_by-cons (farthest² k p P) e es in
     omega (arith, sums_ordered k es p P h f.1)
 
-pub spread_ordered : (k : Kind) (es : List Ends) (p P : ℕ) → p ≤ P → All (Fits k) es → (D E : ℕ) → D ≡ sum_by (nearest² k p P) es → E ≡ sum_by (farthest² k p P) es → D ≤ E
+pub spread_ordered : (k : Kind) (es : List Ends) (p P : ℕ) → p ≤ P → AllByRecursion (Fits k) es → (D E : ℕ) → D ≡ sum_by (nearest² k p P) es → E ≡ sum_by (farthest² k p P) es → D ≤ E
 spread_ordered k es p P h f D E d e = omega (arith, sums_ordered k es p P h f)
 
 pub root_ordered : (l H P x X D E : ℕ) → 0 < P → 90000000 ≤ x → x ≤ X → D ≤ E → (l * l) * (P * (X * X)) ≤ D * 10000000000000000 → E * 10000000000000000 ≤ (H * H) * (P * (x * x)) → l ≤ H

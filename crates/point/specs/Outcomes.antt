@@ -1,6 +1,6 @@
 -- What the figures worked out for a point promise. Assumes nothing.
 use Rattle.std.specs.Prelude.{◌≤◌, List, length, pos, Some, None, Option}
-use Rattle.std.specs.List.{AllByRecursion as All}
+use Rattle.std.specs.List.{AllByRecursion}
 use Rattle.exact.specs.Fractions.{Fraction}
 use Rattle.exact.specs.Figures.{number}
 use Rattle.exact.specs.Pairs.{Holds, steps}
@@ -15,7 +15,7 @@ use Rattle.point.specs.Rows.{Held, Fits}
 pub record Workable (k : Kind) (rows : List Ends) : Type 0 where
   pub some : 5 ≤ length rows
   pub few : length rows ≤ 20
-  pub fits : All (Fits k) rows
+  pub fits : AllByRecursion (Fits k) rows
 
 -- each pair of the point holds the exact figure of the values xs; that the pairs are narrow is an invariant of the type
 pub record PointHolds (k : Kind) (xs : List Fraction) (p : Point) : Type 0 where

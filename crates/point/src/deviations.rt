@@ -1,6 +1,6 @@
 // The squared deviations of a point's values from their mean.
 ghost use Rattle.std.specs.Prelude.{◌≡◌, ℕ, ◌+◌, ◌*◌, ◌≤◌, List, length, pos, ◌+ℤ◌, sum_by};
-ghost use Rattle.std.specs.List.{AllByRecursion as All};
+ghost use Rattle.std.specs.List.{AllByRecursion};
 ghost use Rattle.exact.specs.Fractions.{Fraction};
 ghost use Rattle.exact.specs.Figures.{number};
 ghost use Rattle.exact.specs.Pairs.{Holds, steps};
@@ -37,7 +37,7 @@ pub fn farthest(one: Level, other: Level) -> u64
 /// The least and the greatest sum of squared deviations from a mean between two ends, in squared steps.
 pub(crate) fn spread<V: Statistic>(rows: &[Ends], mean: Level) -> Bounds
     requires few { length rows.now ≤ 20 }
-    requires fits { All (Fits V.Value.kind) rows.now }
+    requires fits { AllByRecursion (Fits V.Value.kind) rows.now }
     ensures low { result.low ≡ sum_by (nearest² V.Value.kind mean.low mean.high) rows.now }
     ensures high { result.high ≡ sum_by (farthest² V.Value.kind mean.low mean.high) rows.now }
     ensures ordered { result.low ≤ result.high }
@@ -70,7 +70,7 @@ pub(crate) struct Deviations {
 /// The squared deviations of a point's values, from its mean and the mean's pair near 1.
 pub(crate) fn deviate<V: Statistic>(rows: &[Ends], mean: Pair, level: Level) -> Deviations
     requires few { (5 ≤ length rows.now) × (length rows.now ≤ 20) }
-    requires fits { All (Fits V.Value.kind) rows.now }
+    requires fits { AllByRecursion (Fits V.Value.kind) rows.now }
     requires lowered { (mean.low +ℤ pos (raise V.Value.kind) ≡ pos level.low) × (mean.high +ℤ pos (raise V.Value.kind) ≡ pos level.high) }
     ensures passes { result.passes ≡ length rows.now }
     ensures narrow { (k s : ℕ) → (k * s) * result.most ≤ (k * (s + k)) * result.least + (s * (s + k)) * (result.passes * (601 * 601)) }

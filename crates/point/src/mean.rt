@@ -1,6 +1,6 @@
 // The mean of a point.
 ghost use Rattle.std.specs.Prelude.{◌≡◌, ◌+◌, ◌*◌, ◌<◌, ◌≤◌, List, length, pos, ◌+ℤ◌, sum_by};
-ghost use Rattle.std.specs.List.{AllByRecursion as All};
+ghost use Rattle.std.specs.List.{AllByRecursion};
 ghost use Rattle.exact.specs.Fractions.{Fraction};
 ghost use Rattle.exact.specs.Figures.{number};
 ghost use Rattle.exact.specs.Pairs.{Holds, steps};
@@ -31,7 +31,7 @@ pub(crate) fn read<V: Statistic>(row: Ends) -> Level
 /// The ends of the rows, near 1, added up.
 fn total<V: Statistic>(rows: &[Ends]) -> Bounds
     requires few { length rows.now ≤ 20 }
-    requires fits { All (Fits V.Value.kind) rows.now }
+    requires fits { AllByRecursion (Fits V.Value.kind) rows.now }
     ensures low { result.low ≡ sum_by (λ e. raised V.Value.kind e.low) rows.now }
     ensures high { result.high ≡ sum_by (λ e. raised V.Value.kind e.high) rows.now }
 {
@@ -48,7 +48,7 @@ fn total<V: Statistic>(rows: &[Ends]) -> Bounds
 /// The mean's pair near 1: the ends' means, rounded down and up.
 pub(crate) fn mean_level<V: Statistic>(rows: &[Ends]) -> Level
     requires few { (5 ≤ length rows.now) × (length rows.now ≤ 20) }
-    requires fits { All (Fits V.Value.kind) rows.now }
+    requires fits { AllByRecursion (Fits V.Value.kind) rows.now }
     ensures holds { (xs : List Fraction) → Held rows.now xs → Holds steps (pos result.low) (pos result.high) (number (level_of V.Value.kind (exact_mean xs))) }
 {
     let passes = rows.len() as u64;

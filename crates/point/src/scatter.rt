@@ -66,7 +66,7 @@ pub(crate) fn mean_scatter(deviations: &Deviations) -> Pair
     paired(root.low, root.high)
 }
 
-/// ε = typeof.t.S0, in steps.
+/// ε = t·S0, in steps.
 pub(crate) fn random_limit(passes: usize, of_mean: Pair) -> Pair
     requires passes { (5 ≤ passes) × (passes ≤ 20) }
     requires range { (pos 0 ≤ℤ of_mean.low) × (of_mean.high ≤ℤ pos 14000520) }

@@ -1,6 +1,6 @@
 // The figures of a point, worked out from its rows.
 ghost use Rattle.std.specs.Prelude.{◌≡◌, true, false, List};
-ghost use Rattle.std.specs.List.{AllByRecursion as All};
+ghost use Rattle.std.specs.List.{AllByRecursion};
 ghost use Rattle.exact.specs.Fractions.{Fraction};
 ghost use Rattle.point.specs.Rows.{Fits, Held};
 ghost use Rattle.point.specs.Outcomes.{Workable, PointHolds, Answered};
@@ -47,8 +47,8 @@ fn fitting<V: Statistic>(row: Ends) -> bool
 
 /// Whether every row fits its kind.
 fn all_fitting<V: Statistic>(rows: &[Ends]) -> bool
-    ensures yes { result ≡ true → All (Fits V.Value.kind) rows.now }
-    ensures no { result ≡ false → All (Fits V.Value.kind) rows.now → ⊥ }
+    ensures yes { result ≡ true → AllByRecursion (Fits V.Value.kind) rows.now }
+    ensures no { result ≡ false → AllByRecursion (Fits V.Value.kind) rows.now → ⊥ }
 {
     for row in rows {
         if !fitting::<V>(*row) {

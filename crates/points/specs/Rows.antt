@@ -1,7 +1,7 @@
 -- The rows of several points, and what their figures promise. Assumes nothing.
 use Rattle.std.specs.Prelude.{ℕ, ◌≤◌, List, [], ◌∷◌, length, Some, None, Option}
 use Rattle.std.specs.Borrow.{Bor}
-use Rattle.std.specs.List.{AllByRecursion as All}
+use Rattle.std.specs.List.{AllByRecursion}
 use Rattle.exact.specs.Fractions.{Fraction}
 use Rattle.pass.specs.Kinds.{Kind}
 use Rattle.point.specs.Rows.{Held}
@@ -23,7 +23,7 @@ pub data AllHeld : List Rows → List (List Fraction) → Type 0 where
 
 -- every point's rows are workable
 abbrev pub AllWorkable : Kind → List Rows → Type 0
-AllWorkable k points = All (λ rows. Workable k rows.now) points
+AllWorkable k points = AllByRecursion (λ rows. Workable k rows.now) points
 
 -- points and limits whose figures can be worked out: 2 to 10 points of workable rows, at most eight limits in their range
 pub record Complete (k : Kind) (points : List Rows) (limits : List ℕ) : Type 0 where

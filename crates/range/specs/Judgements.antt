@@ -1,6 +1,6 @@
 -- What the figures worked out for a range promise. Assumes nothing.
 use Rattle.std.specs.Prelude.{ℕ, ◌≤◌, List, length, Some, None, Option}
-use Rattle.std.specs.List.{AllByRecursion as All}
+use Rattle.std.specs.List.{AllByRecursion}
 use Rattle.exact.specs.Fractions.{Fraction}
 use Rattle.exact.specs.Figures.{number, root}
 use Rattle.exact.specs.Pairs.{Holds, steps}
@@ -14,7 +14,7 @@ use Rattle.range.specs.Reaches.{PointsHold}
 -- given limits: at most eight, each at most 1,000,000 steps
 pub record Limits (limits : List ℕ) : Type 0 where
   pub few : length limits ≤ 8
-  pub small : All (λ g. g ≤ 1000000) limits
+  pub small : AllByRecursion (λ g. g ≤ 1000000) limits
 
 -- a range that can be worked out: 2 to 10 points, and such limits
 pub record Workable (points : List Point) (limits : List ℕ) : Type 0 where

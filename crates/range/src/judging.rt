@@ -1,6 +1,6 @@
 // The figures of a range, from its points and the given limits.
 ghost use Rattle.std.specs.Prelude.{◌≡◌, ◌≤◌, true, false, List, ◌∷◌, length};
-ghost use Rattle.std.specs.List.{AllByRecursion as All};
+ghost use Rattle.std.specs.List.{AllByRecursion};
 ghost use Rattle.exact.specs.Fractions.{Fraction};
 ghost use Rattle.pass.specs.Kinds.{Kind};
 ghost use Rattle.range.specs.Reaches.{PointsHold, Reaches, Sound};
@@ -59,8 +59,8 @@ pub fn work(points: &[Point], limits: &[u32]) -> Range
 
 /// Whether every given limit is at most 1,000,000 steps.
 fn all_small(limits: &[u32]) -> bool
-    ensures yes { result ≡ true → All (λ g. g ≤ 1000000) limits.now }
-    ensures no { result ≡ false → All (λ g. g ≤ 1000000) limits.now → ⊥ }
+    ensures yes { result ≡ true → AllByRecursion (λ g. g ≤ 1000000) limits.now }
+    ensures no { result ≡ false → AllByRecursion (λ g. g ≤ 1000000) limits.now → ⊥ }
 {
     for limit in limits {
         if *limit > 1_000_000 {

@@ -1,6 +1,6 @@
 // Θ, the systematic limit.
 ghost use Rattle.std.specs.Prelude.{◌≡◌, ◌*◌, ◌≤◌, length, pos, sum_by};
-ghost use Rattle.std.specs.List.{AllByRecursion as All};
+ghost use Rattle.std.specs.List.{AllByRecursion};
 ghost use Rattle.exact.specs.Fractions.{Fraction};
 ghost use Rattle.exact.specs.Figures.{number, root};
 ghost use Rattle.exact.specs.Pairs.{Holds, steps};
@@ -13,7 +13,7 @@ use point::roots::{root_ceil, root_floor};
 /// The squares of the given limits added up, in squared steps.
 fn given_squares(limits: &[u32]) -> u64
     requires few { length limits.now ≤ 8 }
-    requires small { All (λ g. g ≤ 1000000) limits.now }
+    requires small { AllByRecursion (λ g. g ≤ 1000000) limits.now }
     ensures value { result ≡ sum_by (λ g. g * g) limits.now }
     ensures small { result ≤ 8000000000000 }
 {
@@ -29,7 +29,7 @@ fn given_squares(limits: &[u32]) -> u64
 pub(crate) fn systematic(neighbours: Bounds, limits: &[u32]) -> Bounds
     requires neighbours { Narrow 280 6000000 neighbours }
     requires few { length limits.now ≤ 8 }
-    requires small { All (λ g. g ≤ 1000000) limits.now }
+    requires small { AllByRecursion (λ g. g ≤ 1000000) limits.now }
     ensures holds { (x : Fraction) → Holds steps (pos neighbours.low) (pos neighbours.high) (number x) → Holds steps (pos result.low) (pos result.high) (root (Θ² (given limits.now) x)) }
     ensures narrow { Narrow 310 20000000 result }
 {

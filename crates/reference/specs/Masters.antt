@@ -17,7 +17,7 @@ use Rattle.pass.specs.declared.passes.Passes.{Passes}
 use Rattle.reference.specs.References.{faulted}
 use Rattle.reference.specs.declared.master.MasterMeter.{MasterMeter}
 
--- the exact mass in milligrams: 10¹³·N_m·Td/(T_m-as-K_m)
+-- the exact mass in milligrams: 10¹³·N_m·Td/(T_m·K_m)
 abbrev pub master_mass : ℕ → Record → Fraction
 master_mass factor r = mass_of (pos factor) (interpolated r.master_pulses r.detector_time r.master_time)
 

@@ -1,5 +1,5 @@
 use Rattle.std.proofs.Common.{pos, subst}
-use Rattle.std.specs.List.{AllByRecursion as All}
+use Rattle.std.specs.List.{AllByRecursion}
 use Rattle.std.proofs.lemmas.List.{take_all}
 use Rattle.std.proofs.ByRecursion.{All-get_or, All-more}
 use Rattle.std.proofs.lemmas.Bool.{true≢false, false≢true}
@@ -20,4 +20,4 @@ pub loop-row-preserved : goal.loop-row-preserved
 loop-row-preserved g c = All-more (Fits g.V.Value.kind) c.args.rows.now c.loop-row.row-index nil c.loop-row-test.true c.loop-row.invariant (c.fitting.ensures.yes c.if-not-fitting.false)
 
 pub returns : goal.returns
-returns g c = record { yes = λ _. subst (All (Fits g.V.Value.kind)) (take_all c.loop-row.row-index c.args.rows.now c.loop-row-test.false) c.loop-row.invariant; no = λ e. absurd (true≢false e) }
+returns g c = record { yes = λ _. subst (AllByRecursion (Fits g.V.Value.kind)) (take_all c.loop-row.row-index c.args.rows.now c.loop-row-test.false) c.loop-row.invariant; no = λ e. absurd (true≢false e) }

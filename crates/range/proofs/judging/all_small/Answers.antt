@@ -1,5 +1,5 @@
 use Rattle.std.proofs.Common.{◌≤◌, subst, arith}
-use Rattle.std.specs.List.{AllByRecursion as All}
+use Rattle.std.specs.List.{AllByRecursion}
 use Rattle.std.proofs.ByRecursion.{All-get_or, All-more}
 use Rattle.std.proofs.lemmas.List.{take_all}
 use Rattle.std.proofs.lemmas.Bool.{true≢false, false≢true}
@@ -16,6 +16,6 @@ loop-limit-preserved c = All-more (λ g. g ≤ 1000000) c.args.limits.now c.loop
 
 pub returns : goal.returns
 returns c = record {
-  yes = λ _. subst (All (λ g. g ≤ 1000000)) (take_all c.loop-limit.limit-index c.args.limits.now c.loop-limit-test.false) c.loop-limit.invariant;
+  yes = λ _. subst (AllByRecursion (λ g. g ≤ 1000000)) (take_all c.loop-limit.limit-index c.args.limits.now c.loop-limit-test.false) c.loop-limit.invariant;
   no = λ e. absurd (true≢false e);
 }

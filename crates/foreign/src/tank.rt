@@ -39,9 +39,9 @@ impl Reference for TankScale {
 
     ghost least = { λ _. least_passes };
 
-    ghost working = { first_of (Prim.search rules, Prim.grind (arith, Self.row.coded.inj)) };
+    ghost working = { Prim.search rules };
 
-    ghost check = { first_of (Prim.search rules, Prim.grind (arith, Self.row.coded.inj)) };
+    ghost check = { Prim.search rules };
 
     ghost good = { λ s r h.
         record {
@@ -51,7 +51,7 @@ impl Reference for TankScale {
           narrow = omega arith;
         } };
 
-    ghost same = { first_of (Prim.search rules, Prim.grind (arith, Self.row.coded.inj)) };
+    ghost same = { Prim.search rules };
 
     fn passes(&self) -> Passes {
         Passes {

@@ -1,6 +1,4 @@
 // Reads passes from standard input, one to a line, and prints what they give or why they are denied.
-#![tactic(auto)]
-
 // A line is a word, some figures and the eleven fields of the record, as whole numbers with one space between:
 //     master               the meter's set factor, the master's factor            the sheet of the pass
 //     pipe                 V0, D, s, E and α of a pipe prover                     its volume in the pass
@@ -13,6 +11,8 @@
 //     point-K, point-MF, point-F   the two ends of each value, in steps           the figures of the point, which is kept
 //     range                the given limits, in steps                             the figures of the kept points, which are then let go
 // Any other line prints `?`.
+#![tactic(auto)]
+
 mod answers;
 mod lines;
 mod print;

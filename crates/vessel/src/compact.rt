@@ -1,6 +1,6 @@
 // The compact prover as a vessel.
 ghost use Rattle.std.specs.Prelude.{◌≡◌, ◌*◌, ◌≤◌, ◌&&◌, ℤ, pos, unsigned_abs};
-ghost use Rattle.std.proofs.Common.{sym, subst, rules, arith};
+ghost use Rattle.std.proofs.Common.{sym, subst, rules};
 ghost use Rattle.exact.specs.Ends.{Has};
 ghost use Rattle.exact.specs.Pairs.{floor, ceiling};
 ghost use Rattle.vessel.specs.Provers.{compact_takes, compact_fault, CompactAlike, compact_volume, compact_answer, compact_top, compact_ends, compact_passes, strained as strain, stiffness as stiff};
@@ -84,11 +84,11 @@ impl Vessel for CompactProver {
 
     ghost width = { λ _. 200 };
 
-    ghost working = { first_of (Prim.search rules, Prim.grind (arith, Self.row.coded.inj)) };
+    ghost working = { Prim.search rules };
 
-    ghost check = { first_of (Prim.search rules, Prim.grind (arith, Self.row.coded.inj)) };
+    ghost check = { Prim.search rules };
 
-    ghost narrow = { first_of (Prim.search rules, Prim.grind (arith, Self.row.coded.inj)) };
+    ghost narrow = { Prim.search rules };
 
     ghost good = { λ v r h.
         let t = r.wall_temperature in
@@ -102,7 +102,7 @@ impl Vessel for CompactProver {
         subst (λ (z : ℤ). Good 200 (volume_of v.section.volume (compact_cts v.area_expansion v.rod_expansion t u) (cps v.section.bore v.section.wall v.section.modulus z)) (compact_ends v (raised t) (raised u) (unsigned_abs p)))
         (sym press.0) (compact_good v t u (raised t) (raised u) (unsigned_abs p) warm.0 rod.0 warm.1 rod.1 press.1) };
 
-    ghost same = { first_of (Prim.search rules, Prim.grind (arith, Self.row.coded.inj)) };
+    ghost same = { Prim.search rules };
 
     fn passes() -> Passes {
         Passes {

@@ -2,7 +2,7 @@
 ghost use Rattle.std.specs.Prelude.{◌≤◌, ℤ, unsigned_abs};
 ghost use Rattle.exact.specs.Ends.{Has};
 ghost use Rattle.vessel.specs.Provers.{pipe_takes, pipe_fault, PipeAlike, pipe_volume, pipe_answer, pipe_ends, pipe_passes};
-ghost use Rattle.std.proofs.Common.{sym, subst, rules, arith};
+ghost use Rattle.std.proofs.Common.{sym, subst, rules};
 ghost use Rattle.pass.specs.Ranges.{temperate, raised};
 ghost use Rattle.pass.specs.Ranges;
 ghost use Rattle.pass.proofs.Taken.{both, temperate_raised, pressed_natural};
@@ -55,11 +55,11 @@ impl Vessel for PipeProver {
 
     ghost width = { λ _. 200 };
 
-    ghost working = { first_of (Prim.search rules, Prim.grind (arith, Self.row.coded.inj)) };
+    ghost working = { Prim.search rules };
 
-    ghost check = { first_of (Prim.search rules, Prim.grind (arith, Self.row.coded.inj)) };
+    ghost check = { Prim.search rules };
 
-    ghost narrow = { first_of (Prim.search rules, Prim.grind (arith, Self.row.coded.inj)) };
+    ghost narrow = { Prim.search rules };
 
     ghost good = { λ v r h.
         let t = r.wall_temperature in
@@ -70,7 +70,7 @@ impl Vessel for PipeProver {
         subst (λ (z : ℤ). Good 200 (volume_of v.section.volume (pipe_cts v.expansion t) (cps v.section.bore v.section.wall v.section.modulus z)) (pipe_ends v (raised t) (unsigned_abs p)))
         (sym press.0) (pipe_good v t (raised t) (unsigned_abs p) warm.0 warm.1 press.1) };
 
-    ghost same = { first_of (Prim.search rules, Prim.grind (arith, Self.row.coded.inj)) };
+    ghost same = { Prim.search rules };
 
     fn passes() -> Passes {
         Passes {

@@ -2,7 +2,6 @@
 #![tactic(auto)]
 
 pub mod laws;
-pub mod making;
 pub mod pair;
 pub mod rounding;
 pub mod shifts;

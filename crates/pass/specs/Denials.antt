@@ -1,9 +1,10 @@
 -- The numbers of denials, and what each carries. Assumes nothing.
-use Rattle.std.specs.Prelude.{ℕ}
+use Rattle.std.specs.Prelude.{◌≡◌, ℕ}
 use Rattle.pass.specs.declared.denials.Field.{Field}
 use Rattle.pass.specs.declared.denials.Field.TheVariants.{Together, Pulses, DetectorTime, PulseTime, WallTemperature, VesselPressure, RodTemperature, DensitometerTemperature, DensitometerPressure, Density, MasterPulses, MasterTime}
 use Rattle.pass.specs.declared.denials.Device.{Device}
 use Rattle.pass.specs.declared.denials.Device.TheVariants.{Vessel, Densitometer, Master, Liquid, Mass}
+use Rattle.pass.specs.declared.denials.Fault.{Fault}
 use Rattle.pass.specs.declared.denials.Denial.{Denial}
 use Rattle.pass.specs.declared.denials.Denial.TheVariants.{Figure, Meter, Reference, Value}
 
@@ -43,3 +44,7 @@ carried (Figure place) = (place, 0)
 carried (Meter field) = (field_number field, 0)
 carried (Reference fault) = (device_number fault.device, field_number fault.field)
 carried Value = (0, 0)
+
+-- the denial of what a reference faults
+abbrev pub ReferenceDenied : Fault → Denial → Type 0
+ReferenceDenied fault denial = denial ≡ Reference fault

@@ -1,7 +1,10 @@
 -- The kinds of value of a meter, and when a pass is accepted. Assumes nothing.
 use Rattle.std.specs.Prelude.{◌≡◌, ℕ, ◌+◌, ◌*◌, ◌/◌, Bool, true, false, ◌&&◌, ℤ, pos, Ok, Err, Result, int_le, nat_le, unsigned_abs}
-use Rattle.exact.specs.Pairs.{floor, ceiling}
+use Rattle.exact.specs.Fractions.{Fraction, whole}
+use Rattle.exact.specs.Figures.{number}
+use Rattle.exact.specs.Pairs.{Holds, steps, floor, ceiling}
 use Rattle.exact.specs.declared.pair.Pair.{Pair}
+use Rattle.pass.specs.Kinds.{Kind, value}
 use Rattle.pass.specs.declared.denials.Denial.{Denial}
 use Rattle.pass.specs.declared.denials.Denial.TheVariants.{Value}
 use Rattle.pass.specs.declared.masses.CountedMass.{CountedMass}
@@ -33,3 +36,9 @@ acceptable meter reference = near_one_lem (pos (factor_low meter reference)) (po
 abbrev pub Accepted : CountedMass → ReferenceMass → Result Masses Denial → Type 0
 Accepted meter reference (Ok m) = (acceptable meter.pair reference.pair ≡ true) × (m.meter ≡ meter) × (m.reference ≡ reference)
 Accepted meter reference (Err d) = (acceptable meter.pair reference.pair ≡ false) × (d ≡ Value)
+
+-- a pair of steps holds the value of a kind, whichever masses the two pairs hold
+abbrev pub HoldsValue : Kind → Masses → Pair → Type 0
+HoldsValue kind masses p =
+    (m m0 : Fraction) → Holds whole masses.meter.pair.low masses.meter.pair.high (number m)
+    → Holds whole masses.reference.pair.low masses.reference.pair.high (number m0) → Holds steps p.low p.high (number (value kind m m0))

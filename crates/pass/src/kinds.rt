@@ -1,9 +1,7 @@
 // The three kinds of value.
 ghost use Rattle.std.specs.Prelude.{pos, ◌+ℤ◌, ◌≤ℤ◌};
-ghost use Rattle.exact.specs.Fractions.{Fraction, whole, div};
-ghost use Rattle.exact.specs.Figures.{number};
-ghost use Rattle.exact.specs.Pairs.{Holds, steps};
 ghost use Rattle.pass.specs.Kinds.{K, MF, F as Signed};
+ghost use Rattle.pass.specs.Values.{HoldsValue};
 ghost use Rattle.std.proofs.Common.{rules};
 
 use crate::masses::Masses;
@@ -26,7 +24,7 @@ pub struct Correction;
 
 /// The meter's mass over the reference's, in steps.
 fn meter_by_reference(masses: &Masses) -> Pair
-    ensures holds { (m m0 : Fraction) → Holds whole masses.now.meter.pair.low masses.now.meter.pair.high (number m) → Holds whole masses.now.reference.pair.low masses.now.reference.pair.high (number m0) → Holds steps result.low result.high (number (div m m0)) }
+    ensures holds { HoldsValue K masses.now result }
     ensures narrow { result.high ≤ℤ (result.low +ℤ pos 300) }
     ensures range { (pos 90000000 ≤ℤ result.low) × (result.high ≤ℤ pos 111111112) }
 {
@@ -35,7 +33,7 @@ fn meter_by_reference(masses: &Masses) -> Pair
 
 /// The reference's mass over the meter's, in steps.
 fn reference_by_meter(masses: &Masses) -> Pair
-    ensures holds { (m m0 : Fraction) → Holds whole masses.now.meter.pair.low masses.now.meter.pair.high (number m) → Holds whole masses.now.reference.pair.low masses.now.reference.pair.high (number m0) → Holds steps result.low result.high (number (div m0 m)) }
+    ensures holds { HoldsValue MF masses.now result }
     ensures narrow { result.high ≤ℤ (result.low +ℤ pos 300) }
     ensures range { (pos 90000000 ≤ℤ result.low) × (result.high ≤ℤ pos 110000000) }
 {

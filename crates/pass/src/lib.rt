@@ -2,15 +2,12 @@
 #![tactic(auto)]
 
 pub mod acceptance;
-pub mod counting;
 pub mod denials;
 pub mod factor;
-pub mod fields;
 pub mod gate;
 pub mod kinds;
 pub mod masses;
 pub mod meter;
-pub mod metering;
 pub mod numbers;
 pub mod passes;
 pub mod ranges;

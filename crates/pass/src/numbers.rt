@@ -1,15 +1,15 @@
 // The numbers of fields, devices and denials.
 ghost use Rattle.std.specs.Prelude.{◌≡◌};
-ghost use Rattle.pass.specs.Denials.{field_number, device_number, denial_number, carried as carried_by};
+ghost use Rattle.pass.specs.Denials.{field_number, device_number, denial_number, carried as carried_by, ReferenceDenied};
 
-use crate::denials::{Denial, Device, Field};
+use crate::denials::{Denial, Device, Fault, Field};
 
-impl Field {
-    /// The field's number in the record, 1 to 11; 0 for no one field.
-    pub fn number(&self) -> u8
-        ensures { result ≡ field_number self.now }
-    {
-        match self {
+/// The field's number in the record, 1 to 11; 0 for no one field.
+impl From<Field> for u8 {
+    ghost from_gives = { λ field n. n ≡ field_number field };
+
+    fn from(field: Field) -> u8 {
+        match field {
             Field::Together => 0,
             Field::Pulses => 1,
             Field::DetectorTime => 2,
@@ -26,12 +26,12 @@ impl Field {
     }
 }
 
-impl Device {
-    /// The device's number.
-    pub fn number(&self) -> u8
-        ensures { result ≡ device_number self.now }
-    {
-        match self {
+/// The device's number.
+impl From<Device> for u8 {
+    ghost from_gives = { λ device n. n ≡ device_number device };
+
+    fn from(device: Device) -> u8 {
+        match device {
             Device::Vessel => 1,
             Device::Densitometer => 2,
             Device::Master => 3,
@@ -41,8 +41,17 @@ impl Device {
     }
 }
 
+/// What a reference faults denies the call.
+impl From<Fault> for Denial {
+    ghost from_gives = { ReferenceDenied };
+
+    fn from(fault: Fault) -> Denial {
+        Denial::Reference(fault)
+    }
+}
+
 impl Denial {
-    /// The denial's number.
+    /// The denial's number; a denial is more than its number, so it is no conversion.
     pub fn number(&self) -> u8
         ensures { result ≡ denial_number self.now }
     {
@@ -60,8 +69,8 @@ impl Denial {
     {
         match self {
             Denial::Figure(place) => (*place, 0),
-            Denial::Meter(field) => (field.number(), 0),
-            Denial::Reference(fault) => (fault.device.number(), fault.field.number()),
+            Denial::Meter(field) => (u8::from(*field), 0),
+            Denial::Reference(fault) => (u8::from(fault.device), u8::from(fault.field)),
             Denial::Value => (0, 0),
         }
     }

@@ -1,3 +1,6 @@
+// The record of a pass, and its making from a list of its fields.
+ghost use Rattle.std.specs.Prelude.{◌≡◌, ◌≢◌, length, MatchResult};
+
 /// The record of one pass, field by field in the order of its numbers.
 /// By itself it may hold any numbers: a range is asked where a field is used.
 #[derive(Clone, Copy, PartialEq, Eq, Debug, Drop)]
@@ -24,4 +27,49 @@ pub struct Record {
     pub master_pulses: i32,
     /// 11, T_m: as Tp, for the master meter, in µs.
     pub master_time: i32,
+}
+
+/// How many numbers there were, where a record has eleven fields.
+#[derive(Clone, Copy, PartialEq, Eq, Debug, Drop)]
+pub struct FieldCount(pub usize);
+
+/// The record whose eleven fields these are, in the order of their numbers.
+impl TryFrom<&[i32]> for Record {
+    ghost use Rattle.pass.specs.Readings.{InOrder};
+
+    type Error = FieldCount;
+
+    ghost try_from_gives = { λ fields r. MatchResult r (λ p. InOrder p fields.now) (λ e. (length fields.now ≢ 11) × (e.0 ≡ length fields.now)) };
+
+    fn try_from(fields: &[i32]) -> Result<Record, FieldCount> {
+        let [
+            pulses,
+            detector_time,
+            pulse_time,
+            wall_temperature,
+            vessel_pressure,
+            rod_temperature,
+            densitometer_temperature,
+            densitometer_pressure,
+            density,
+            master_pulses,
+            master_time,
+        ] = *fields
+        else {
+            return Err(FieldCount(fields.len()));
+        };
+        Ok(Record {
+            pulses,
+            detector_time,
+            pulse_time,
+            wall_temperature,
+            vessel_pressure,
+            rod_temperature,
+            densitometer_temperature,
+            densitometer_pressure,
+            density,
+            master_pulses,
+            master_time,
+        })
+    }
 }

@@ -1,9 +1,7 @@
 // What a value of a meter is, worked out from the two masses of a pass.
 ghost use Rattle.std.specs.Prelude.{pos, ◌+ℤ◌, ◌≤ℤ◌};
-ghost use Rattle.exact.specs.Fractions.{Fraction, whole};
-ghost use Rattle.exact.specs.Figures.{number};
-ghost use Rattle.exact.specs.Pairs.{Holds, steps};
-ghost use Rattle.pass.specs.Kinds.{Kind, value, least, most};
+ghost use Rattle.pass.specs.Kinds.{Kind, least, most};
+ghost use Rattle.pass.specs.Values.{HoldsValue};
 
 use crate::masses::Masses;
 use exact::pair::Pair;
@@ -15,7 +13,7 @@ pub trait Value {
 
     /// The value of an accepted pass, in steps.
     fn of(masses: &Masses) -> Pair
-        ensures holds { (m m0 : Fraction) → Holds whole masses.now.meter.pair.low masses.now.meter.pair.high (number m) → Holds whole masses.now.reference.pair.low masses.now.reference.pair.high (number m0) → Holds steps result.low result.high (number (value kind m m0)) }
+        ensures holds { HoldsValue kind masses.now result }
         ensures narrow { result.high ≤ℤ (result.low +ℤ pos 300) }
         ensures range { (least kind ≤ℤ result.low) × (result.high ≤ℤ most kind) };
 }
@@ -24,7 +22,7 @@ pub trait Value {
 pub trait RatioValue: Value {
     /// The value, never below 90,000,000 steps.
     fn ratio(masses: &Masses) -> Pair
-        ensures holds { (m m0 : Fraction) → Holds whole masses.now.meter.pair.low masses.now.meter.pair.high (number m) → Holds whole masses.now.reference.pair.low masses.now.reference.pair.high (number m0) → Holds steps result.low result.high (number (value Self.Value.kind m m0)) }
+        ensures holds { HoldsValue Self.Value.kind masses.now result }
         ensures narrow { result.high ≤ℤ (result.low +ℤ pos 300) }
         ensures floor { (pos 90000000 ≤ℤ result.low) × (result.high ≤ℤ most Self.Value.kind) }
     {

@@ -1,2 +1,3 @@
 pub mod Sealed
 pub mod Tanks
+pub mod ShownWeighs

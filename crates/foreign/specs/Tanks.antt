@@ -8,7 +8,7 @@ use Rattle.pass.specs.declared.denials.Device.TheVariants.{Mass}
 use Rattle.pass.specs.declared.denials.Fault.{Fault}
 use Rattle.pass.specs.declared.passes.Passes.{Passes}
 use Rattle.reference.specs.References.{faulted}
-use Rattle.foreign.specs.declared.scale.TankScale.{TankScale}
+use Rattle.foreign.specs.declared.tank.TankScale.{TankScale}
 
 -- what a scale may show
 abbrev pub showing : ℕ → Bool

@@ -1,6 +1,5 @@
 // Devices as another maker would write them, outside the library.
 #![tactic(auto)]
 
-pub mod scale;
 pub mod sealed;
 pub mod tank;

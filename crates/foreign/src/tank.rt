@@ -1,12 +1,8 @@
 // A reference that weighs: whatever the record says, the mass is what the scale shows.
-ghost use Rattle.std.specs.Prelude.{◌≡◌, true, false, MatchOption};
-ghost use Rattle.foreign.specs.Tanks.{every, faultless, shown_mass, shown_ends, Any, passes as least_passes, showing};
-ghost use Rattle.std.proofs.Common.{arith, rules};
-ghost use Rattle.std.proofs.lemmas.Int.{ints};
-ghost use Rattle.exact.specs.Fractions.{nat};
-ghost use Rattle.exact.proofs.Order.{le_refl};
+ghost use Rattle.std.specs.Prelude.{◌≡◌, ◌≤◌, true, false, MatchOption};
+ghost use Rattle.std.proofs.Common.{rules};
+ghost use Rattle.foreign.specs.ShownWeighs.{shown_weighs};
 
-use crate::scale::TankScale;
 use exact::pair::Pair;
 use pass::denials::Fault;
 use pass::masses::ReferenceMass;
@@ -14,7 +10,17 @@ use pass::passes::Passes;
 use pass::readings::Record;
 use reference::reference::Reference;
 
+/// A tank on a scale, which weighed the liquid of the pass.
+#[derive(Clone, Copy, Drop)]
+pub struct TankScale {
+    /// What the scale shows, in milligrams.
+    pub shown: u64,
+    ghost ranged: { (10000000 ≤ shown) × (shown ≤ 30000000000) },
+}
+
 impl TankScale {
+    ghost use Rattle.foreign.specs.Tanks.{showing};
+
     /// A scale that shows so many milligrams, if a reference may give them.
     pub fn open(shown: u64) -> Option<TankScale>
         ensures { MatchOption result (showing shown ≡ false) (λ s. (showing shown ≡ true) × (s.shown ≡ shown)) }
@@ -27,6 +33,8 @@ impl TankScale {
 }
 
 impl Reference for TankScale {
+    ghost use Rattle.foreign.specs.Tanks.{every, faultless, shown_mass, shown_ends, Any, passes as least_passes};
+
     ghost takes = { every };
 
     ghost fault = { faultless };
@@ -43,13 +51,7 @@ impl Reference for TankScale {
 
     ghost check = { Prim.search rules };
 
-    ghost good = { λ s r h.
-        record {
-          holds = record { least = le_refl (nat s.shown); most = le_refl (nat s.shown) };
-          least = omega (arith, ints, s.ranged.0);
-          most = omega (arith, ints, s.ranged.1);
-          narrow = omega arith;
-        } };
+    ghost good = { λ s r h. shown_weighs s.shown s.ranged.0 s.ranged.1 };
 
     ghost same = { Prim.search rules };
 

@@ -4,6 +4,7 @@
 #[derive(Clone, Copy, PartialEq, Eq, Debug, Drop)]
 pub enum Field {
     /// No one field: what the fields give together is out of its range.
+    /// A variant and no `None`: a field is named by one of twelve numbers wherever one is, and other makers' devices name it too.
     Together,
     Pulses,
     DetectorTime,
@@ -44,6 +45,7 @@ pub struct Fault {
 #[derive(Clone, Copy, PartialEq, Eq, Debug, Drop)]
 pub enum Denial {
     /// A figure of a certificate or a setting is out of its range: its place among them, from 1.
+    /// A count and no enum: other makers' certificates have figures of their own, which a list of ours would shut out.
     Figure(u8),
     /// The meter does not take the record: the lowest field that it faults.
     Meter(Field),

@@ -7,7 +7,7 @@ use crate::ranges::in_range;
 use crate::readings::Record;
 use exact::pair::Pair;
 
-/// The meter under test, by its set factor.
+/// The meter under test, by its set factor. It has a type of its own, so that none is given where a master meter is wanted.
 #[derive(Clone, Copy, Drop)]
 pub struct Meter {
     pub factor: Factor,
@@ -24,7 +24,7 @@ impl Meter {
         Ok(Meter { factor })
     }
 
-    /// What the meter counted in the gate of a pass.
+    /// What the meter counted in the gate of a pass. A master meter asks its fields in another order, the lowest first, so each has its own.
     pub fn gate(pass: &Record) -> Result<Gate, Denial>
         ensures { Gated pass.now result }
     {

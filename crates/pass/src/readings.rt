@@ -42,34 +42,21 @@ impl TryFrom<&[i32]> for Record {
     ghost try_from_gives = { λ fields r. MatchResult r (λ p. InOrder p fields.now) (λ e. (length fields.now ≢ 11) × (e.0 ≡ length fields.now)) };
 
     fn try_from(fields: &[i32]) -> Result<Record, FieldCount> {
-        let [
-            pulses,
-            detector_time,
-            pulse_time,
-            wall_temperature,
-            vessel_pressure,
-            rod_temperature,
-            densitometer_temperature,
-            densitometer_pressure,
-            density,
-            master_pulses,
-            master_time,
-        ] = *fields
-        else {
+        let [n, td, tp, t_v, p_v, t_d, t_p, p_p, rho, n_m, t_m] = *fields else {
             return Err(FieldCount(fields.len()));
         };
         Ok(Record {
-            pulses,
-            detector_time,
-            pulse_time,
-            wall_temperature,
-            vessel_pressure,
-            rod_temperature,
-            densitometer_temperature,
-            densitometer_pressure,
-            density,
-            master_pulses,
-            master_time,
+            pulses: n,
+            detector_time: td,
+            pulse_time: tp,
+            wall_temperature: t_v,
+            vessel_pressure: p_v,
+            rod_temperature: t_d,
+            densitometer_temperature: t_p,
+            densitometer_pressure: p_p,
+            density: rho,
+            master_pulses: n_m,
+            master_time: t_m,
         })
     }
 }

@@ -1,2 +1,3 @@
 pub mod References
 pub mod Masters
+pub mod MasterWeighs

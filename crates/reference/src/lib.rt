@@ -3,4 +3,3 @@
 
 pub mod master;
 pub mod reference;
-pub mod weighing;

@@ -1,5 +1,5 @@
 -- The kinds of value of a meter, and when a pass is accepted. Assumes nothing.
-use Rattle.std.specs.Prelude.{◌≡◌, ℕ, ◌+◌, ◌*◌, ◌/◌, Bool, true, false, ◌&&◌, ℤ, pos, Ok, Err, Result, int_le, nat_le, unsigned_abs}
+use Rattle.std.specs.Prelude.{◌≡◌, ℕ, ◌+◌, ◌*◌, ◌/◌, Bool, true, false, ◌&&◌, ℤ, pos, ◌+ℤ◌, ◌≤ℤ◌, Ok, Err, Result, int_le, nat_le, unsigned_abs}
 use Rattle.exact.specs.Fractions.{Fraction, whole}
 use Rattle.exact.specs.Figures.{number}
 use Rattle.exact.specs.Pairs.{Holds, steps, floor, ceiling}
@@ -37,8 +37,8 @@ abbrev pub Accepted : CountedMass → ReferenceMass → Result Masses Denial →
 Accepted meter reference (Ok m) = (acceptable meter.pair reference.pair ≡ true) × (m.meter ≡ meter) × (m.reference ≡ reference)
 Accepted meter reference (Err d) = (acceptable meter.pair reference.pair ≡ false) × (d ≡ Value)
 
--- a pair of steps holds the value of a kind, whichever masses the two pairs hold
-abbrev pub HoldsValue : Kind → Masses → Pair → Type 0
-HoldsValue kind masses p =
-    (m m0 : Fraction) → Holds whole masses.meter.pair.low masses.meter.pair.high (number m)
-    → Holds whole masses.reference.pair.low masses.reference.pair.high (number m0) → Holds steps p.low p.high (number (value kind m m0))
+-- a pair of steps holds the value of a kind, whichever masses the two pairs hold, and its ends are at most 300 steps apart
+pub record Valued (kind : Kind) (masses : Masses) (p : Pair) : Type 0 where
+  pub holds : (m m0 : Fraction) → Holds whole masses.meter.pair.low masses.meter.pair.high (number m)
+      → Holds whole masses.reference.pair.low masses.reference.pair.high (number m0) → Holds steps p.low p.high (number (value kind m m0))
+  pub narrow : p.high ≤ℤ (p.low +ℤ pos 300)

@@ -1,7 +1,7 @@
 // The three kinds of value.
 ghost use Rattle.std.specs.Prelude.{pos, ◌+ℤ◌, ◌≤ℤ◌};
 ghost use Rattle.pass.specs.Kinds.{K, MF, F as Signed};
-ghost use Rattle.pass.specs.Values.{HoldsValue};
+ghost use Rattle.pass.specs.Values.{Valued};
 ghost use Rattle.std.proofs.Common.{rules};
 
 use crate::masses::Masses;
@@ -24,8 +24,7 @@ pub struct Correction;
 
 /// The meter's mass over the reference's, in steps.
 fn meter_by_reference(masses: &Masses) -> Pair
-    ensures holds { HoldsValue K masses.now result }
-    ensures narrow { result.high ≤ℤ (result.low +ℤ pos 300) }
+    ensures value { Valued K masses.now result }
     ensures range { (pos 90000000 ≤ℤ result.low) × (result.high ≤ℤ pos 111111112) }
 {
     ratio(masses.meter.pair, masses.reference.pair)
@@ -33,8 +32,7 @@ fn meter_by_reference(masses: &Masses) -> Pair
 
 /// The reference's mass over the meter's, in steps.
 fn reference_by_meter(masses: &Masses) -> Pair
-    ensures holds { HoldsValue MF masses.now result }
-    ensures narrow { result.high ≤ℤ (result.low +ℤ pos 300) }
+    ensures value { Valued MF masses.now result }
     ensures range { (pos 90000000 ≤ℤ result.low) × (result.high ≤ℤ pos 110000000) }
 {
     ratio(masses.reference.pair, masses.meter.pair)

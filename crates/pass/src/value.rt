@@ -1,7 +1,7 @@
 // What a value of a meter is, worked out from the two masses of a pass.
 ghost use Rattle.std.specs.Prelude.{pos, ◌+ℤ◌, ◌≤ℤ◌};
 ghost use Rattle.pass.specs.Kinds.{Kind, least, most};
-ghost use Rattle.pass.specs.Values.{HoldsValue};
+ghost use Rattle.pass.specs.Values.{Valued};
 
 use crate::masses::Masses;
 use exact::pair::Pair;
@@ -13,8 +13,7 @@ pub trait Value {
 
     /// The value of an accepted pass, in steps.
     fn of(masses: &Masses) -> Pair
-        ensures holds { HoldsValue kind masses.now result }
-        ensures narrow { result.high ≤ℤ (result.low +ℤ pos 300) }
+        ensures value { Valued kind masses.now result }
         ensures range { (least kind ≤ℤ result.low) × (result.high ≤ℤ most kind) };
 }
 
@@ -22,8 +21,7 @@ pub trait Value {
 pub trait RatioValue: Value {
     /// The value, never below 90,000,000 steps.
     fn ratio(masses: &Masses) -> Pair
-        ensures holds { HoldsValue Self.Value.kind masses.now result }
-        ensures narrow { result.high ≤ℤ (result.low +ℤ pos 300) }
+        ensures value { Valued Self.Value.kind masses.now result }
         ensures floor { (pos 90000000 ≤ℤ result.low) × (result.high ≤ℤ most Self.Value.kind) }
     {
         Self::of(masses)

@@ -7,8 +7,7 @@ use Rattle.exact.specs.Ends.{Ends, Has}
 use Rattle.exact.specs.declared.pair.Pair.{Pair}
 use Rattle.pass.specs.Kinds.{Kind, K, MF, F, value}
 use Rattle.pass.specs.Meters.{meter_takes, meter_fault, meter_count, meter_mass, meter_low, meter_high}
-use Rattle.pass.specs.Values.{near_one_lem, HoldsValue}
-use Rattle.pass.specs.declared.masses.Masses.{Masses}
+use Rattle.pass.specs.Values.{near_one_lem}
 use Rattle.pass.specs.declared.readings.Record.{Record}
 use Rattle.pass.specs.declared.denials.Denial.{Denial}
 use Rattle.pass.specs.declared.denials.Denial.TheVariants.{Meter, Reference, Value}
@@ -20,11 +19,6 @@ use Rattle.sheet.specs.declared.figures.Sheet.{Sheet}
 pub record Within (unit : ℤ → Fraction) (apart : ℕ) (p : Pair) (x : Fraction) : Type 0 where
   pub holds : Holds unit p.low p.high (number x)
   pub narrow : p.high ≤ℤ (p.low +ℤ pos apart)
-
--- a pair of steps holds the value of a kind, whichever masses the two pairs hold, and its ends are at most 300 steps apart
-pub record Valued (kind : Kind) (masses : Masses) (p : Pair) : Type 0 where
-  pub holds : HoldsValue kind masses p
-  pub narrow : p.high ≤ℤ (p.low +ℤ pos 300)
 
 -- the exact value of a kind, of a pass whose reference mass is given
 abbrev pub exact_value : Kind → ℕ → Fraction → Record → Fraction

@@ -1,6 +1,7 @@
 // The sheet of a pass, and working it out.
 ghost use Rattle.std.specs.Prelude.{◌≡◌};
 ghost use Rattle.pass.specs.Kinds.{K, MF, F as Signed};
+ghost use Rattle.pass.specs.Values.{Valued};
 
 use exact::pair::Pair;
 use pass::denials::Denial;
@@ -29,7 +30,7 @@ pub struct Sheet {
 }
 
 impl Sheet {
-    ghost use Rattle.sheet.specs.Sheets.{Valued, WorkedOut};
+    ghost use Rattle.sheet.specs.Sheets.{WorkedOut};
 
     /// The sheet of an accepted pass, from its count and its two masses.
     fn of(count: Pair, masses: &Masses) -> Sheet

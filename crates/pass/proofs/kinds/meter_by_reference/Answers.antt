@@ -12,7 +12,6 @@ returns c =
     let most = pulse_high (nat_abs r.low) (nat_abs m.high) (omega (arith, ints)) near.0 in
     let apart = pulse_narrow (nat_abs r.low) (nat_abs r.high) (nat_abs m.low) (nat_abs m.high) (omega (arith, ints)) c.args.masses.now.reference.narrow (omega (arith, ints)) near.0 (omega (arith, ints)) (omega (arith, ints)) in
     record {
-      holds = c.ratio.ensures.holds;
-      narrow = omega (arith, ints, c.ratio.ensures.low, c.ratio.ensures.high, apart);
+      value = record { holds = c.ratio.ensures.holds; narrow = omega (arith, ints, c.ratio.ensures.low, c.ratio.ensures.high, apart) };
       range = (omega (arith, ints, c.ratio.ensures.low, least), omega (arith, ints, c.ratio.ensures.high, most));
     }

@@ -12,7 +12,6 @@ returns c =
     let most = factor_high (nat_abs r.high) (nat_abs m.low) (omega (arith, ints)) near.1 in
     let apart = factor_narrow (nat_abs r.low) (nat_abs r.high) (nat_abs m.low) (nat_abs m.high) (omega (arith, ints)) c.args.masses.now.reference.narrow (omega (arith, ints)) (omega (arith, ints)) near.1 near.0 (omega (arith, ints)) (omega (arith, ints)) in
     record {
-      holds = λ x y h k. c.ratio.ensures.holds y x k h;
-      narrow = omega (arith, ints, c.ratio.ensures.low, c.ratio.ensures.high, apart);
+      value = record { holds = λ x y h k. c.ratio.ensures.holds y x k h; narrow = omega (arith, ints, c.ratio.ensures.low, c.ratio.ensures.high, apart) };
       range = (omega (arith, ints, c.ratio.ensures.low, least), omega (arith, ints, c.ratio.ensures.high, most));
     }

@@ -1,9 +1,5 @@
 -- How large the terms are: each is at most half of the one before from the third on, so that the sum is bounded by its first terms.
-use Prim.Native.Nat.{ℕ, zero, suc, ◌+◌, ◌*◌, ◌<◌, ◌≤◌}
-use mathlib.Core.Path.{◌≡◌}
-use native.Mathlib.Omega.{arith}
-use native.Mathlib.Nat.{mul-le-mul, mul-le-mul_left}
-use native.Mathlib.Numerals.{add-one}
+use Rattle.std.proofs.Common.{◌≡◌, ℕ, zero, suc, ◌+◌, ◌*◌, ◌<◌, ◌≤◌, mul-le-mul, mul-le-mul_left, arith}
 use Rattle.exact.proofs.Quotients.{floor_under}
 use Rattle.expsum.specs.Terms.{next_term_lem, Terms, more_terms, terms}
 
@@ -61,13 +57,7 @@ bounded size zero small = go (next_term_lem size 2 size)
     go h = record { even_least = omega arith; odd_least = omega arith; last_most = omega arith; all_most = omega arith }
 bounded size (suc j) small = bounded_more size (next_term_lem size 2 size) j (terms size j) small (bounded size j small)
 
--- one turn of the loop, in the loop's numbers
-pub turned : (size j even odd last middle next : ℕ) → even ≡ (terms size j).even → odd ≡ (terms size j).odd → last ≡ (terms size j).last
-    → middle ≡ next_term_lem size (2 * j + 3) last → next ≡ next_term_lem size (2 * j + 4) middle
-    → (even + next ≡ (terms size (j + 1)).even) × (odd + middle ≡ (terms size (j + 1)).odd) × (next ≡ (terms size (j + 1)).last)
-unfolding terms
-turned size j even odd last middle next a b c d f = rw (add-one j) ((cc), (cc), (cc))
-
+-- how large the sums and the last term are
 pub sums_most : (size j even odd : ℕ) → size ≤ 1500000000000 → even ≡ (terms size j).even → odd ≡ (terms size j).odd → even + odd ≤ 5500000000000
 sums_most size j even odd s e o =
     let b = (bounded size j s).all_most in

@@ -1,8 +1,5 @@
 -- Whole units of 10⁻¹² near an exact number: by how many units they may differ, through products, quotients and sums.
-use Prim.Native.Nat.{ℕ, ◌+◌, ◌*◌, ◌<◌, ◌≤◌}
-use mathlib.Core.Path.{◌≡◌}
-use native.Mathlib.Omega.{arith}
-use native.Mathlib.Nat.{mul-pos, mul-le-mul_left, mul-le-mul_right}
+use Rattle.std.proofs.Common.{◌≡◌, ℕ, ◌+◌, ◌*◌, ◌<◌, ◌≤◌, mul-pos, mul-le-mul_left, mul-le-mul_right, arith}
 use Rattle.exact.specs.Fractions.{Fraction, Same, nat, add, neg, mul, div}
 use Rattle.exact.proofs.Worth.{Worth, worth_nat, worth_add, worth_mul, worth_div, worth_of}
 

@@ -1,9 +1,5 @@
 -- The sum of the terms in whole units is near the exact sum.
-use Prim.Native.Nat.{ℕ, zero, suc, ◌+◌, ◌*◌, ◌<◌, ◌≤◌}
-use mathlib.Core.Path.{◌≡◌, refl, sym, subst}
-use native.Mathlib.Omega.{arith}
-use native.Mathlib.Nat.{mul-pos, zero-lt-suc, zero-add}
-use lib.Dec.{lit<}
+use Rattle.std.proofs.Common.{◌≡◌, ℕ, zero, suc, ◌+◌, ◌*◌, ◌<◌, ◌≤◌, refl, sym, subst, mul-pos, zero-lt-suc, zero-add, lit<, arith}
 use Rattle.exact.specs.Fractions.{Fraction, Same, nat, add, neg, mul, div}
 use Rattle.exact.proofs.Worth.{worth_itself, worth_nat, worth_neg, worth_mul, worth_div, worth_same}
 use Rattle.expsum.specs.Series.{power, factorial, term, series, e}

@@ -12,6 +12,7 @@ pub struct Parts {
 }
 
 /// From one term to the k-th, rounded down.
+#[tactic(auto, using(crate::proofs::Bounds::next_small))]
 fn next_term(size: u128, k: u128, term: u128) -> u128
     requires small { (size ≤ 1500000000000) × (term ≤ 1500000000000) }
     requires place { (2 ≤ k) × (k ≤ 20) }
@@ -22,6 +23,7 @@ fn next_term(size: u128, k: u128, term: u128) -> u128
 }
 
 /// The terms 0 to 20 for an argument of this size. The sum is even + odd for a positive argument, even − odd for a negative one.
+#[tactic(auto, using(crate::proofs::Bounds::sums_most, crate::proofs::Bounds::last_most), unfolding(crate::specs::Terms::terms))]
 pub fn sum(size: u128) -> Parts
     requires small { size ≤ 1500000000000 }
     ensures even { result.even ≡ (terms size 9).even }

@@ -27,6 +27,6 @@ megapascals p = parts 1000 p
 -- The conditions of a question that is taken, as natural numbers.
 abbrev pub Read : Question → Result Conditions Field → Type 0
 Read q (Ok c) =
-    (takes q ≡ true) × (c.wall_temperature ≡ raised q.wall_temperature) × (c.vessel_pressure ≡ unsigned_abs q.vessel_pressure)
-    × (c.densitometer_temperature ≡ raised q.densitometer_temperature) × (c.densitometer_pressure ≡ unsigned_abs q.densitometer_pressure)
+    (takes q ≡ true) × (c.wall_temperature.raised ≡ raised q.wall_temperature) × (c.vessel_pressure.kilopascals ≡ unsigned_abs q.vessel_pressure)
+    × (c.densitometer_temperature.raised ≡ raised q.densitometer_temperature) × (c.densitometer_pressure.kilopascals ≡ unsigned_abs q.densitometer_pressure)
 Read q (Err f) = (takes q ≡ false) × (f ≡ fault q)

@@ -1,12 +1,37 @@
-ghost use Rattle.std.specs.Prelude.{◌≤◌};
+// The conditions of a question in range.
+use crate::question::Question;
+use pass::denials::Field;
+use pass::ranges::{Pressure, Temperature};
 
-/// The conditions of a question in range: temperatures in 0.01 °C above −10 °C, gauge pressures in kPa.
+/// The conditions in the vessel and at the densitometer.
 #[derive(Clone, Copy, Drop)]
 pub struct Conditions {
-    pub wall_temperature: u32,
-    pub vessel_pressure: u32,
-    pub densitometer_temperature: u32,
-    pub densitometer_pressure: u32,
-    ghost temperate: { (wall_temperature ≤ 6000) × (densitometer_temperature ≤ 6000) },
-    ghost pressed: { (vessel_pressure ≤ 10000) × (densitometer_pressure ≤ 10000) },
+    pub wall_temperature: Temperature,
+    pub vessel_pressure: Pressure,
+    pub densitometer_temperature: Temperature,
+    pub densitometer_pressure: Pressure,
+}
+
+/// The conditions of a question, or the lowest field out of range.
+impl TryFrom<&Question> for Conditions {
+    ghost use Rattle.liquid.specs.Questions.{Read};
+
+    type Error = Field;
+
+    ghost try_from_gives = { λ question r. Read question.now r };
+
+    fn try_from(question: &Question) -> Result<Conditions, Field> {
+        Ok(Conditions {
+            wall_temperature: Temperature::new(question.wall_temperature).ok_or(
+                Field::WallTemperature,
+            )?,
+            vessel_pressure: Pressure::new(question.vessel_pressure).ok_or(Field::VesselPressure)?,
+            densitometer_temperature: Temperature::new(question.densitometer_temperature).ok_or(
+                Field::DensitometerTemperature,
+            )?,
+            densitometer_pressure: Pressure::new(question.densitometer_pressure).ok_or(
+                Field::DensitometerPressure,
+            )?,
+        })
+    }
 }

@@ -1,10 +1,8 @@
 // Liquids: the factor that carries a density from the densitometer's conditions to the vessel's.
 #![tactic(auto)]
 
-pub mod asking;
-pub mod carrying;
 pub mod conditions;
 pub mod linear;
 pub mod meaning;
 pub mod question;
-pub mod reading;
+pub mod worked;

@@ -1,3 +1,6 @@
+// The question that a pass puts to a liquid.
+use pass::readings::Record;
+
 /// What a liquid is asked: the conditions in the vessel, to which the density is carried, and at the densitometer, where it was read.
 /// By itself a question may hold any numbers: a range is asked where a field is used.
 #[derive(Clone, Copy, PartialEq, Eq, Debug, Drop)]
@@ -10,4 +13,21 @@ pub struct Question {
     pub densitometer_temperature: i32,
     /// 8, P_p: gauge pressure at the densitometer, in kPa.
     pub densitometer_pressure: i32,
+}
+
+/// Fields 4, 5, 7 and 8 of a record.
+impl From<&Record> for Question {
+    ghost use Rattle.std.specs.Prelude.{◌≡◌};
+    ghost use Rattle.liquid.specs.Asking.{question_of};
+
+    ghost from_gives = { λ pass question. question ≡ question_of pass.now };
+
+    fn from(pass: &Record) -> Question {
+        Question {
+            wall_temperature: pass.wall_temperature,
+            vessel_pressure: pass.vessel_pressure,
+            densitometer_temperature: pass.densitometer_temperature,
+            densitometer_pressure: pass.densitometer_pressure,
+        }
+    }
 }

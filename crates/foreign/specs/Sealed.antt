@@ -5,7 +5,6 @@ use Rattle.exact.specs.Ends.{Ends}
 use Rattle.pass.specs.declared.readings.Record.{Record}
 use Rattle.pass.specs.declared.denials.Field.{Field}
 use Rattle.pass.specs.declared.denials.Field.TheVariants.{WallTemperature}
-use Rattle.pass.specs.declared.passes.Passes.{Passes}
 
 abbrev pub never : Record → Bool
 never r = false
@@ -23,6 +22,3 @@ none r = record { low = pos 0; high = pos 0 }
 -- it uses no field, so any two records are alike
 abbrev pub Any : Record → Record → Type 0
 Any p q = Unit {0}
-
-abbrev pub passes : Passes
-passes = record { working = 20; check = 20 }

@@ -1,10 +1,9 @@
 // A vessel that takes no record: a prover that is sealed off.
-ghost use Rattle.foreign.specs.Sealed.{never, faulty, nothing, none, Any, passes as least_passes};
+ghost use Rattle.foreign.specs.Sealed.{never, faulty, nothing, none, Any};
 ghost use Rattle.std.proofs.Common.{rules};
 
 use exact::pair::Pair;
 use pass::denials::Field;
-use pass::passes::Passes;
 use pass::readings::Record;
 use vessel::vessel::Vessel;
 
@@ -19,6 +18,12 @@ impl Vessel for SealedProver {
 
     const WIDTH: u16 = 1_200;
 
+    ghost LEAST_WORKING = { 20 };
+
+    ghost LEAST_CHECK = { 20 };
+
+    ghost width = { λ _. 1200 };
+
     ghost takes = { λ _ r. never r };
 
     ghost fault = { λ _ r. faulty r };
@@ -29,10 +34,6 @@ impl Vessel for SealedProver {
 
     ghost alike = { Any };
 
-    ghost least = { least_passes };
-
-    ghost width = { λ _. 1200 };
-
     ghost working = { Prim.search rules };
 
     ghost check = { Prim.search rules };
@@ -42,13 +43,6 @@ impl Vessel for SealedProver {
     ghost good = { Prim.search rules };
 
     ghost same = { Prim.search rules };
-
-    fn passes() -> Passes {
-        Passes {
-            working: Self::LEAST_WORKING,
-            check: Self::LEAST_CHECK,
-        }
-    }
 
     fn spread(&self) -> u16 {
         Self::WIDTH

@@ -10,10 +10,9 @@ use Rattle.pass.specs.declared.denials.Field.TheVariants.{WallTemperature, Vesse
 use Rattle.pass.specs.declared.denials.Denial.{Denial}
 use Rattle.pass.specs.declared.denials.Denial.TheVariants.{Figure}
 use Rattle.vessel.specs.Walls.{pipe_cts, compact_cts, cps, volume_of}
-use Rattle.pass.specs.declared.passes.Passes.{Passes}
-use Rattle.vessel.specs.declared.provers.Section.{Section}
-use Rattle.vessel.specs.declared.provers.PipeProver.{PipeProver}
-use Rattle.vessel.specs.declared.provers.CompactProver.{CompactProver}
+use Rattle.vessel.specs.declared.section.Section.{Section}
+use Rattle.vessel.specs.declared.pipe.PipeProver.{PipeProver}
+use Rattle.vessel.specs.declared.compact.CompactProver.{CompactProver}
 
 -- The pipe prover uses fields 4 and 5, and takes a record exactly if they are in range.
 abbrev pub pipe_takes : PipeProver → Record → Bool
@@ -81,12 +80,6 @@ compact_ends v wall rod pressure = record {
 abbrev pub compact_answer : CompactProver → Record → Ends
 compact_answer v r = compact_ends v (raised r.wall_temperature) (raised r.rod_temperature) (unsigned_abs r.vessel_pressure)
 
-abbrev pub pipe_passes : Passes
-pipe_passes = record { working = 5; check = 7 }
-
-abbrev pub compact_passes : Passes
-compact_passes = record { working = 7; check = 11 }
-
 -- Opening. The place of the first figure out of range, in the order V0, D, s, E and then the coefficients, where `rest` is that among
 -- the coefficients; 0 where all are in range.
 abbrev pub section_place : ℕ → ℤ → ℤ → ℤ → ℤ → ℕ
@@ -106,9 +99,10 @@ pub record Figures (volume bore wall modulus : ℤ) (s : Section) : Type 0 where
   pub wall_is : wall ≡ pos s.wall
   pub modulus_is : modulus ≡ pos s.modulus
 
-abbrev pub SectionOpened : ℤ → ℤ → ℤ → ℤ → Result Section ℕ → Type 0
+-- A section opens if its four figures are in range; otherwise, whatever the rest, the denial has the place of the first that is out of range.
+abbrev pub SectionOpened : ℤ → ℤ → ℤ → ℤ → Result Section Denial → Type 0
 SectionOpened volume bore wall modulus (Ok s) = ((rest : ℕ) → section_place rest volume bore wall modulus ≡ rest) × Figures volume bore wall modulus s
-SectionOpened volume bore wall modulus (Err place) = (0 < place) × ((rest : ℕ) → section_place rest volume bore wall modulus ≡ place)
+SectionOpened volume bore wall modulus (Err d) = (rest : ℕ) → (0 < section_place rest volume bore wall modulus) × (d ≡ Figure (section_place rest volume bore wall modulus))
 
 -- A good certificate always opens, with exactly these figures; otherwise the denial has the place of the first that is out of range.
 abbrev pub PipeOpened : ℤ → ℤ → ℤ → ℤ → ℤ → Result PipeProver Denial → Type 0

@@ -1,19 +1,22 @@
 -- The pairs of the two provers: what they hold, where they lie and how wide they are. V is the certified volume, a and b the
 -- temperature factors times 10¹⁰, S the bottom and c the top of the pressure factor.
-use Rattle.std.specs.Prelude.{◌≡◌, ℕ, ◌+◌, ◌*◌, ◌<◌, ◌≤◌, ℤ, pos, ◌+ℤ◌}
-use Rattle.std.proofs.Common.{arith, mul-le-mul, mul-le-mul_left, mul-le-mul_right, le_of_mul-le-mul_right, lit<, le→leb}
+use Rattle.std.specs.Prelude.{◌≡◌, ℕ, ◌+◌, ◌*◌, ◌<◌, ◌≤◌, true, ◌&&◌, ℤ, pos, ◌+ℤ◌, unsigned_abs}
+use Rattle.std.proofs.Common.{sym, subst, arith, mul-le-mul, mul-le-mul_left, mul-le-mul_right, le_of_mul-le-mul_right, lit<, le→leb}
 use Rattle.exact.specs.Fractions.{Fraction, whole}
 use Rattle.exact.specs.Figures.{number}
 use Rattle.exact.specs.Pairs.{Holds, floor, ceiling}
 use Rattle.exact.proofs.Worth.{Worth, worth_nat, worth_div, worth_le, worth_same, worth_of}
 use Rattle.exact.proofs.Pairs.{holds_same, holds_quotient}
 use Rattle.exact.proofs.Quotients.{floor_under, ceil_over, floor_least, ceil_most, floor_ceil}
+use Rattle.pass.specs.Ranges.{temperate, raised, pressed}
+use Rattle.pass.specs.declared.readings.Record.{Record}
+use Rattle.pass.proofs.Taken.{both, temperate_raised, pressed_natural}
 use Rattle.vessel.specs.Vessels.{Good}
 use Rattle.vessel.specs.Walls.{pipe_cts, compact_cts, cps, volume_of}
-use Rattle.vessel.specs.Provers.{stretch, stiffness, strained, pipe_top, pipe_ends, compact_top, compact_ends}
-use Rattle.vessel.specs.declared.provers.Section.{Section}
-use Rattle.vessel.specs.declared.provers.PipeProver.{PipeProver}
-use Rattle.vessel.specs.declared.provers.CompactProver.{CompactProver}
+use Rattle.vessel.specs.Provers.{stretch, stiffness, strained, pipe_takes, pipe_volume, pipe_top, pipe_ends, pipe_answer, compact_takes, compact_volume, compact_top, compact_ends, compact_answer}
+use Rattle.vessel.specs.declared.section.Section.{Section}
+use Rattle.vessel.specs.declared.pipe.PipeProver.{PipeProver}
+use Rattle.vessel.specs.declared.compact.CompactProver.{CompactProver}
 use Rattle.vessel.specs.Factors.{pipe_worth, compact_worth, pressure_worth, volume_worth}
 
 -- the factors lie near 1
@@ -113,16 +116,21 @@ pipe_top_least v wall pressure =
     pipe_least v.section.volume (stretch (3 * v.expansion) wall) (strained v.section pressure) (stiffness v.section) v.section.volume_ranged.0
     (stretch_least (3 * v.expansion) wall (omega (arith, v.ranged))) (omega arith)
 
--- what a pipe prover's pair owes
-pub pipe_good : (v : PipeProver) (t : ℤ) (wall pressure : ℕ) → t +ℤ pos 1000 ≡ pos wall → wall ≤ 6000 → pressure ≤ 10000
+pub pipe_ends_most : (v : PipeProver) (wall pressure : ℕ) → wall ≤ 6000 → pressure ≤ 10000 → ceiling (pipe_top v wall pressure) (10000000 * stiffness v.section) ≤ 23000000000
+pipe_ends_most v wall pressure h k =
+    let stiff = section_stiff v.section in
+    ceil_most (pipe_top v wall pressure) (10000000 * stiffness v.section) 23000000000 (omega arith) (pipe_top_most v wall pressure h k)
+
+-- what a pipe prover's pair owes at a temperature and a pressure in range
+pub pipe_owes : (v : PipeProver) (t : ℤ) (wall pressure : ℕ) → t +ℤ pos 1000 ≡ pos wall → wall ≤ 6000 → pressure ≤ 10000
     → Good 200 (volume_of v.section.volume (pipe_cts v.expansion t) (cps v.section.bore v.section.wall v.section.modulus (pos pressure))) (pipe_ends v wall pressure)
 unfolding pipe_ends
-pipe_good v t wall pressure e h k =
+pipe_owes v t wall pressure e h k =
     let s = v.section in
     let stiff = section_stiff s in
     let bottom : 0 < 10000000 * stiffness v.section = omega arith in
     let least = floor_least (pipe_top v wall pressure) (10000000 * stiffness v.section) 9000000 bottom (pipe_top_least v wall pressure) in
-    let most = ceil_most (pipe_top v wall pressure) (10000000 * stiffness v.section) 23000000000 bottom (pipe_top_most v wall pressure h k) in
+    let most = pipe_ends_most v wall pressure h k in
     let one = (floor_ceil (pipe_top v wall pressure) (10000000 * stiffness v.section) bottom).1 in
     let worth = volume_worth s.volume (pipe_cts v.expansion t) (cps s.bore s.wall s.modulus (pos pressure)) (stretch (3 * v.expansion) wall) 10000000000 (strained s pressure) (stiffness s)
     (pipe_worth v.expansion wall t v.ranged e) (pressure_worth s.bore s.wall s.modulus pressure (omega (arith, s.wall_ranged.0)) (omega (arith, s.modulus_ranged.0))) in
@@ -137,6 +145,17 @@ pipe_good v t wall pressure e h k =
     same : (V a c S : ℕ) → V * a * c * 1 * (10000000000 * S) + 0 * (1 * (10000000 * S)) ≡ 1000 * V * a * c * (1 * (10000000 * S)) + 0 * 1 * (10000000000 * S)
     same V a c S = omega arith
 
+-- what it owes of a record that it takes
+pub pipe_good : (v : PipeProver) (r : Record) → pipe_takes v r ≡ true → Good 200 (pipe_volume v r) (pipe_answer v r)
+pipe_good v r taken =
+    let t = r.wall_temperature in
+    let p = r.vessel_pressure in
+    let fields = both (temperate t) (pressed p) taken in
+    let warm = temperate_raised t fields.0 in
+    let press = pressed_natural p fields.1 in
+    subst (λ (z : ℤ). Good 200 (volume_of v.section.volume (pipe_cts v.expansion t) (cps v.section.bore v.section.wall v.section.modulus z)) (pipe_answer v r))
+    (sym press.0) (pipe_owes v t (raised t) (unsigned_abs p) warm.0 warm.1 press.1)
+
 -- the compact prover's: its product over 10¹¹, rounded, times the top of the pressure factor over the bottom
 pub compact_low : (v : CompactProver) (wall rod : ℕ) → 9900000000000 ≤ floor (compact_top v wall rod) 100000000000
 compact_low v wall rod =
@@ -150,10 +169,18 @@ compact_high v wall rod h k =
     (product_most v.section.volume (stretch v.area_expansion wall) (stretch v.rod_expansion rod) v.section.volume_ranged.1
     (stretch_most v.area_expansion wall (omega (arith, v.ranged.0)) h) (stretch_most v.rod_expansion rod (omega (arith, v.ranged.1)) k))
 
-pub compact_good : (v : CompactProver) (t u : ℤ) (wall rod pressure : ℕ) → t +ℤ pos 1000 ≡ pos wall → u +ℤ pos 1000 ≡ pos rod → wall ≤ 6000 → rod ≤ 6000 → pressure ≤ 10000
+-- a volume at no pressure, put under a pressure, lies in the range of volumes
+pub under_most : (s : Section) (millionths pressure : ℕ) → millionths ≤ 20110000000000000 → pressure ≤ 10000 → ceiling (millionths * strained s pressure) (1000000 * stiffness s) ≤ 23000000000
+under_most s millionths pressure h k =
+    let stiff = section_stiff s in
+    ceil_most (millionths * strained s pressure) (1000000 * stiffness s) 23000000000 (omega arith)
+    (compact_most millionths (strained s pressure) (stiffness s) h (section_strain s pressure k))
+
+-- what a compact prover's pair owes at temperatures and a pressure in range
+pub compact_owes : (v : CompactProver) (t u : ℤ) (wall rod pressure : ℕ) → t +ℤ pos 1000 ≡ pos wall → u +ℤ pos 1000 ≡ pos rod → wall ≤ 6000 → rod ≤ 6000 → pressure ≤ 10000
     → Good 200 (volume_of v.section.volume (compact_cts v.area_expansion v.rod_expansion t u) (cps v.section.bore v.section.wall v.section.modulus (pos pressure))) (compact_ends v wall rod pressure)
 unfolding compact_ends
-compact_good v t u wall rod pressure e f h j k =
+compact_owes v t u wall rod pressure e f h j k =
     let s = v.section in
     let stiff = section_stiff s in
     let strain = section_strain s pressure k in
@@ -162,8 +189,7 @@ compact_good v t u wall rod pressure e f h j k =
     let high = ceiling (compact_top v wall rod) 100000000000 in
     let least = floor_least (floor (compact_top v wall rod) 100000000000 * strained v.section pressure) (1000000 * stiffness v.section) 9000000 bottom
     (compact_least low (strained s pressure) (stiffness s) (compact_low v wall rod) (omega arith)) in
-    let most = ceil_most (ceiling (compact_top v wall rod) 100000000000 * strained v.section pressure) (1000000 * stiffness v.section) 23000000000 bottom
-    (compact_most high (strained s pressure) (stiffness s) (compact_high v wall rod h j) strain) in
+    let most = under_most s high pressure (compact_high v wall rod h j) k in
     let two = compact_narrow (compact_top v wall rod) (strained v.section pressure) (stiffness v.section) stiff strain in
     let worth = volume_worth s.volume (compact_cts v.area_expansion v.rod_expansion t u) (cps s.bore s.wall s.modulus (pos pressure))
     (stretch v.area_expansion wall * stretch v.rod_expansion rod) 100000000000000000000 (strained s pressure) (stiffness s)
@@ -179,6 +205,20 @@ compact_good v t u wall rod pressure e f h j k =
   where
     same : (V a b c S : ℕ) → 1000 * V * (a * b) * c * (100000000000 * (1000000 * S)) + 0 * (100000000000000000000 * S) ≡ V * a * b * c * (100000000000000000000 * S) + 0 * (100000000000 * (1000000 * S))
     same V a b c S = omega arith
+
+-- what it owes of a record that it takes
+pub compact_good : (v : CompactProver) (r : Record) → compact_takes v r ≡ true → Good 200 (compact_volume v r) (compact_answer v r)
+compact_good v r taken =
+    let t = r.wall_temperature in
+    let p = r.vessel_pressure in
+    let u = r.rod_temperature in
+    let fields = both (temperate t) (pressed p && temperate u) taken in
+    let rest = both (pressed p) (temperate u) fields.1 in
+    let warm = temperate_raised t fields.0 in
+    let press = pressed_natural p rest.0 in
+    let rod = temperate_raised u rest.1 in
+    subst (λ (z : ℤ). Good 200 (volume_of v.section.volume (compact_cts v.area_expansion v.rod_expansion t u) (cps v.section.bore v.section.wall v.section.modulus z)) (compact_answer v r))
+    (sym press.0) (compact_owes v t u (raised t) (raised u) (unsigned_abs p) warm.0 rod.0 warm.1 rod.1 press.1)
 
 pub compact_ordered : (v : CompactProver) (wall rod pressure : ℕ) → floor (floor (compact_top v wall rod) 100000000000 * strained v.section pressure) (1000000 * stiffness v.section)
     ≤ ceiling (ceiling (compact_top v wall rod) 100000000000 * strained v.section pressure) (1000000 * stiffness v.section)

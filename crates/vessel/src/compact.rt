@@ -1,74 +1,100 @@
-// The compact prover as a vessel.
-ghost use Rattle.std.specs.Prelude.{◌≡◌, ◌*◌, ◌≤◌, ◌&&◌, ℤ, pos, unsigned_abs};
-ghost use Rattle.std.proofs.Common.{sym, subst, rules};
-ghost use Rattle.exact.specs.Ends.{Has};
-ghost use Rattle.exact.specs.Pairs.{floor, ceiling};
-ghost use Rattle.vessel.specs.Provers.{compact_takes, compact_fault, CompactAlike, compact_volume, compact_answer, compact_top, compact_ends, compact_passes, strained as strain, stiffness as stiff};
-ghost use Rattle.pass.specs.Ranges.{temperate, raised};
-ghost use Rattle.pass.specs.Ranges;
-ghost use Rattle.pass.proofs.Taken.{both, temperate_raised, pressed_natural};
-ghost use Rattle.vessel.specs.Vessels.{Good};
-ghost use Rattle.vessel.specs.Walls.{compact_cts, cps, volume_of};
-ghost use Rattle.vessel.specs.Volumes.{compact_good};
+// The compact prover: its opening, its volume, and the vessel that it is.
+ghost use Rattle.std.specs.Prelude.{◌≡◌, ◌*◌, ◌≤◌};
 
-use crate::figures::stretch;
-use crate::provers::CompactProver;
+use crate::section::{Section, SectionFigures};
+use crate::stretch::stretch;
 use crate::vessel::Vessel;
 use exact::pair::Pair;
-use exact::rounding::quotient;
-use pass::denials::Field;
-use pass::passes::Passes;
-use pass::ranges::{pressure, temperature};
+use exact::rounding::Quotient;
+use pass::denials::{Denial, Field};
+use pass::ranges::{Pressure, Temperature, in_range};
 use pass::readings::Record;
 
 /// 10⁻⁶ µl in a product of the certified volume and the two temperature factors.
 const MILLIONTH: u128 = 100_000_000_000;
 
+/// A compact prover.
+#[derive(Clone, Copy, Drop)]
+pub struct CompactProver {
+    pub section: Section,
+    /// α_k: the area coefficient of the tube, in 10⁻⁸ per °C.
+    pub area_expansion: u32,
+    /// α_d: the linear coefficient of the rod, in 10⁻⁸ per °C.
+    pub rod_expansion: u32,
+    ghost ranged: { (area_expansion ≤ 6000) × (rod_expansion ≤ 3000) },
+}
+
 impl CompactProver {
+    ghost use Rattle.exact.specs.Ends.{Has};
+    ghost use Rattle.exact.specs.Pairs.{ceiling};
+    ghost use Rattle.vessel.specs.Provers.{CompactOpened, compact_top, compact_ends, strained as strain, stiffness as stiff};
+
+    /// A compact prover by its certificate: as a pipe prover's, with α_k 0 to 6,000 and α_d 0 to 3,000 in 10⁻⁸ per °C.
+    pub fn open(
+        section: &SectionFigures,
+        area_expansion: i32,
+        rod_expansion: i32,
+    ) -> Result<CompactProver, Denial>
+        ensures { CompactOpened section.now.volume section.now.bore section.now.wall section.now.modulus area_expansion rod_expansion result }
+    {
+        Ok(CompactProver {
+            section: Section::open(section)?,
+            area_expansion: in_range(area_expansion, 0, 6_000).ok_or(Denial::Figure(5))?,
+            rod_expansion: in_range(rod_expansion, 0, 3_000).ok_or(Denial::Figure(6))?,
+        })
+    }
+
     /// The certified volume times the two temperature factors, each times 10¹⁰.
-    fn product(&self, wall: u32, rod: u32) -> u128
-        requires { (wall ≤ 6000) × (rod ≤ 6000) }
-        ensures { result ≡ compact_top self.now wall rod }
+    fn product(&self, wall: Temperature, rod: Temperature) -> u128
+        ensures { result ≡ compact_top self.now wall.raised rod.raised }
     {
         self.section.volume as u128
             * stretch(self.area_expansion, wall)
             * stretch(self.rod_expansion, rod)
     }
 
-    /// A volume at no pressure, in 10⁻⁶ µl, put under a pressure in kPa; in microlitres.
-    fn under(&self, millionths: u128, pressure: u32) -> Pair
-        requires { (millionths ≤ 20110000000000000) × (pressure ≤ 10000) }
-        ensures low { result.low ≡ pos (floor (millionths * strain self.now.section pressure) (1000000 * stiff self.now.section)) }
-        ensures high { result.high ≡ pos (ceiling (millionths * strain self.now.section pressure) (1000000 * stiff self.now.section)) }
+    /// A volume at no pressure, in 10⁻⁶ µl, put under a pressure: the microlitres before they are rounded.
+    fn under(&self, millionths: u128, pressure: Pressure) -> Quotient
+        requires { millionths ≤ 20110000000000000 }
+        ensures top { result.top ≡ millionths * strain self.now.section pressure.kilopascals }
+        ensures bottom { result.bottom ≡ 1000000 * stiff self.now.section }
+        ensures most { ceiling result.top result.bottom ≤ 23000000000 }
     {
-        quotient(
-            millionths * self.section.strained(pressure),
-            1_000_000 * self.section.stiffness(),
-        )
+        Quotient {
+            top: millionths * self.section.strained(pressure),
+            bottom: 1_000_000 * self.section.stiffness(),
+        }
     }
 
-    /// The volume at a wall and a rod temperature, in 0.01 °C above −10 °C, and a pressure in kPa; in microlitres.
+    /// The volume at a wall and a rod temperature and a pressure, in microlitres.
     /// The whole product would not fit 128 bits, so the volume at no pressure is rounded to 10⁻⁶ µl first.
-    fn volume_at(&self, wall: u32, rod: u32, pressure: u32) -> Pair
-        requires { (wall ≤ 6000) × ((rod ≤ 6000) × (pressure ≤ 10000)) }
-        ensures { Has result (compact_ends self.now wall rod pressure) }
+    fn volume_at(&self, wall: Temperature, rod: Temperature, pressure: Pressure) -> Pair
+        ensures { Has result (compact_ends self.now wall.raised rod.raised pressure.kilopascals) }
     {
         let product = self.product(wall, rod);
-        let low = self.under(product / MILLIONTH, pressure);
-        let high = self.under((product + (MILLIONTH - 1)) / MILLIONTH, pressure);
         Pair {
-            low: low.low,
-            high: high.high,
+            low: self.under(product / MILLIONTH, pressure).floor(),
+            high: self.under(product.div_ceil(MILLIONTH), pressure).ceil(),
         }
     }
 }
 
 impl Vessel for CompactProver {
+    ghost use Rattle.std.proofs.Common.{rules};
+    ghost use Rattle.vessel.specs.Provers.{compact_takes, compact_fault, CompactAlike, compact_volume, compact_answer};
+    ghost use Rattle.vessel.specs.Volumes.{compact_good};
+
     const LEAST_WORKING: u8 = 7;
 
     const LEAST_CHECK: u8 = 11;
 
     const WIDTH: u16 = 200;
+
+    ghost LEAST_WORKING = { 7 };
+
+    ghost LEAST_CHECK = { 11 };
+
+    ghost width = { λ _. 200 };
 
     ghost takes = { compact_takes };
 
@@ -80,51 +106,24 @@ impl Vessel for CompactProver {
 
     ghost alike = { CompactAlike };
 
-    ghost least = { compact_passes };
-
-    ghost width = { λ _. 200 };
-
     ghost working = { Prim.search rules };
 
     ghost check = { Prim.search rules };
 
     ghost narrow = { Prim.search rules };
 
-    ghost good = { λ v r h.
-        let t = r.wall_temperature in
-        let p = r.vessel_pressure in
-        let u = r.rod_temperature in
-        let taken = both (temperate t) (Ranges.pressed p && temperate u) h in
-        let rest = both (Ranges.pressed p) (temperate u) taken.1 in
-        let warm = temperate_raised t taken.0 in
-        let press = pressed_natural p rest.0 in
-        let rod = temperate_raised u rest.1 in
-        subst (λ (z : ℤ). Good 200 (volume_of v.section.volume (compact_cts v.area_expansion v.rod_expansion t u) (cps v.section.bore v.section.wall v.section.modulus z)) (compact_ends v (raised t) (raised u) (unsigned_abs p)))
-        (sym press.0) (compact_good v t u (raised t) (raised u) (unsigned_abs p) warm.0 rod.0 warm.1 rod.1 press.1) };
+    ghost good = { compact_good };
 
     ghost same = { Prim.search rules };
-
-    fn passes() -> Passes {
-        Passes {
-            working: Self::LEAST_WORKING,
-            check: Self::LEAST_CHECK,
-        }
-    }
 
     fn spread(&self) -> u16 {
         Self::WIDTH
     }
 
     fn ask(&self, pass: &Record) -> Result<Pair, Field> {
-        let Some(wall) = temperature(pass.wall_temperature) else {
-            return Err(Field::WallTemperature);
-        };
-        let Some(pressed) = pressure(pass.vessel_pressure) else {
-            return Err(Field::VesselPressure);
-        };
-        let Some(rod) = temperature(pass.rod_temperature) else {
-            return Err(Field::RodTemperature);
-        };
-        Ok(self.volume_at(wall, rod, pressed))
+        let wall = Temperature::new(pass.wall_temperature).ok_or(Field::WallTemperature)?;
+        let pressure = Pressure::new(pass.vessel_pressure).ok_or(Field::VesselPressure)?;
+        let rod = Temperature::new(pass.rod_temperature).ok_or(Field::RodTemperature)?;
+        Ok(self.volume_at(wall, rod, pressure))
     }
 }

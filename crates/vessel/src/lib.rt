@@ -2,9 +2,8 @@
 #![tactic(auto)]
 
 pub mod compact;
-pub mod figures;
-pub mod opening;
 pub mod pipe;
-pub mod provers;
+pub mod section;
+pub mod stretch;
 pub mod vessel;
 pub mod worked;

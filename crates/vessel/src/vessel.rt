@@ -4,7 +4,6 @@ ghost use Rattle.exact.specs.Fractions.{Fraction};
 ghost use Rattle.exact.specs.Ends.{Ends};
 ghost use Rattle.pass.specs.declared.readings.Record.{Record as RecordT};
 ghost use Rattle.pass.specs.declared.denials.Field.{Field as FieldT};
-ghost use Rattle.pass.specs.declared.passes.Passes.{Passes as PassesT};
 ghost use Rattle.vessel.specs.Vessels.{Good, Same, Asked};
 
 use exact::pair::Pair;
@@ -21,6 +20,14 @@ pub trait Vessel {
     /// w: by how many thousand-millionths of the volume its pair may be wide, 3 µl aside.
     const WIDTH: u16;
 
+    // the constants, as clauses read them
+    ghost LEAST_WORKING: { ℕ };
+
+    ghost LEAST_CHECK: { ℕ };
+
+    // the width w of each vessel: one that is built on another has it from that one
+    ghost width: { Self → ℕ };
+
     // which records it takes
     ghost takes: { Self → RecordT → Bool };
 
@@ -36,16 +43,17 @@ pub trait Vessel {
     // two records agree in the fields that it uses
     ghost alike: { RecordT → RecordT → Type 0 };
 
-    // the constants, as clauses read them
-    ghost least: { PassesT };
-
-    ghost width: { Self → ℕ };
-
     /// The least numbers of passes.
     fn passes() -> Passes
-        ensures { result ≡ least };
+        ensures { result ≡ record { working = LEAST_WORKING; check = LEAST_CHECK } }
+    {
+        Passes {
+            working: Self::LEAST_WORKING,
+            check: Self::LEAST_CHECK,
+        }
+    }
 
-    /// The width w.
+    /// The width w, which no default body can know: a vessel that is built on another has it from that one.
     fn spread(&self) -> u16
         ensures { result ≡ width self.now };
 
@@ -53,9 +61,9 @@ pub trait Vessel {
     fn ask(&self, pass: &Record) -> Result<Pair, Field>
         ensures { Asked (takes self.now pass.now) (answer self.now pass.now) (fault self.now pass.now) result };
 
-    ghost working: { (5 ≤ least.working) × (least.working ≤ 20) };
+    ghost working: { (5 ≤ LEAST_WORKING) × (LEAST_WORKING ≤ 20) };
 
-    ghost check: { (5 ≤ least.check) × (least.check ≤ 20) };
+    ghost check: { (5 ≤ LEAST_CHECK) × (LEAST_CHECK ≤ 20) };
 
     ghost narrow: { (v : Self) → width v ≤ 1200 };
 

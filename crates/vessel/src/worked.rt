@@ -2,8 +2,6 @@
 ghost use Rattle.vessel.specs.Worked.{WallFigures};
 
 /// The worked figures of CTS and CPS.
-pub fn wall_figures() -> bool
+pub fn wall_figures()
     ensures { WallFigures }
-{
-    true
-}
+{}

@@ -1,5 +1,5 @@
 -- The mass of a pass by a prover: the vessel's volume, the density at the densitometer, and the liquid's carry factor. Assumes nothing.
-use Rattle.std.specs.Prelude.{◌≡◌, ℕ, ◌*◌, ◌≤◌, Bool, true, false, cond, ◌&&◌, ℤ, pos, Ok, Err, Result, unsigned_abs}
+use Rattle.std.specs.Prelude.{◌≡◌, ◌*◌, Bool, true, false, cond, ◌&&◌, ℤ, pos, Ok, Err, Result, unsigned_abs}
 use Rattle.exact.specs.Fractions.{Fraction, whole, nat, mul, div}
 use Rattle.exact.specs.Pairs.{floor, ceiling}
 use Rattle.exact.specs.Ends.{Ends, Has}
@@ -7,8 +7,9 @@ use Rattle.exact.specs.declared.pair.Pair.{Pair}
 use Rattle.pass.specs.Ranges.{temperate, pressed, dense}
 use Rattle.pass.specs.Values.{weighable}
 use Rattle.pass.specs.declared.readings.Record.{Record}
+use Rattle.pass.specs.declared.ranges.Density.{Density}
 use Rattle.pass.specs.declared.denials.Field.{Field}
-use Rattle.pass.specs.declared.denials.Field.TheVariants.{Together, DensitometerTemperature, DensitometerPressure, Density}
+use Rattle.pass.specs.declared.denials.Field.TheVariants.{Together, DensitometerTemperature, DensitometerPressure, Density as DensityField}
 use Rattle.pass.specs.declared.denials.Device.TheVariants.{Vessel, Densitometer, Liquid, Mass}
 use Rattle.pass.specs.declared.denials.Fault.{Fault}
 use Rattle.liquid.specs.Asking.{question_of}
@@ -31,7 +32,7 @@ abbrev pub measured : Record → Bool
 measured r = temperate r.densitometer_temperature && (pressed r.densitometer_pressure && dense r.density)
 
 abbrev pub unmeasured : Record → Field
-unmeasured r = cond (temperate r.densitometer_temperature) (cond (pressed r.densitometer_pressure) Density DensitometerPressure) DensitometerTemperature
+unmeasured r = cond (temperate r.densitometer_temperature) (cond (pressed r.densitometer_pressure) DensityField DensitometerPressure) DensitometerTemperature
 
 -- the prover takes a record exactly if the vessel takes it, fields 7 to 9 are in range, the liquid takes the question and the pair lies in its range
 abbrev pub prover_takes : Bool → Record → Ends → Bool
@@ -47,8 +48,8 @@ abbrev pub VolumeGiven : Bool → Ends → Field → Result Pair Fault → Type 
 VolumeGiven takes e field (Ok p) = (takes ≡ true) × Has p e
 VolumeGiven takes e field (Err f) = (takes ≡ false) × (f ≡ faulted Vessel field)
 
-abbrev pub DensityGiven : Record → Result ℕ Fault → Type 0
-DensityGiven r (Ok n) = (measured r ≡ true) × (r.density ≡ pos n) × (n ≤ 120000)
+abbrev pub DensityGiven : Record → Result Density Fault → Type 0
+DensityGiven r (Ok d) = (measured r ≡ true) × (r.density ≡ pos d.hundredths)
 DensityGiven r (Err f) = (measured r ≡ false) × (f ≡ faulted Densitometer (unmeasured r))
 
 abbrev pub CarryGiven : Record → Ends → Result Pair Fault → Type 0

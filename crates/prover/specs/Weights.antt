@@ -1,11 +1,11 @@
 -- The product of a volume's pair, a density and a carry factor's pair: v to w the volume, c to d the factor in steps, ρ the density.
-use Rattle.std.specs.Prelude.{◌≡◌, ℕ, ◌+◌, ◌*◌, ◌/◌, ◌<◌, ◌≤◌, Bool, true, false, cond, ◌&&◌, ℤ, pos, ◌≤ℤ◌, Err, unsigned_abs, refl}
+use Rattle.std.specs.Prelude.{◌≡◌, ℕ, ◌+◌, ◌*◌, ◌/◌, ◌<◌, ◌≤◌, Bool, true, false, cond, ◌&&◌, ℤ, pos, ◌≤ℤ◌, Ok, Err, unsigned_abs, refl}
 use Rattle.std.proofs.Common.{sym, subst, ap, ◌∙◌, arith, mul-le-mul, mul-le-mul_left, mul-le-mul_right, le_of_mul-le-mul_right, lit<}
 use Rattle.std.proofs.lemmas.Int.{ints}
 use Rattle.exact.specs.Fractions.{Fraction, Le, whole, nat, mul}
 use Rattle.exact.specs.Figures.{number}
 use Rattle.exact.specs.Pairs.{Holds, steps, floor, ceiling}
-use Rattle.exact.specs.Ends.{Ends}
+use Rattle.exact.specs.Ends.{Ends, Has}
 use Rattle.exact.proofs.Order.{le_refl, le_trans, nat_le, nat_positive}
 use Rattle.exact.proofs.Worth.{Worth, worth_nat, worth_mul, worth_div, worth_le}
 use Rattle.exact.proofs.Arithmetic.{mul_mono}
@@ -13,15 +13,21 @@ use Rattle.exact.proofs.Quotients.{quotient_least, quotient_most, floor_under, c
 use Rattle.exact.proofs.Pairs.{holds_ends, ordered_whole, ordered_steps}
 use Rattle.std.proofs.lemmas.Bool.Decides.{nat_tests}
 use Rattle.pass.specs.Values.{weighable, fine}
-use Rattle.pass.specs.Ranges.{dense}
-use Rattle.pass.proofs.Taken.{least_of, most_of, weighable_least, weighable_most}
+use Rattle.pass.specs.Ranges.{temperate, pressed, dense}
+use Rattle.pass.proofs.Taken.{both, least_of, most_of, weighable_least, weighable_most}
+use Rattle.pass.specs.declared.readings.Record.{Record}
+use Rattle.pass.specs.declared.denials.Field.{Field}
 use Rattle.pass.specs.declared.denials.Field.TheVariants.{Together}
 use Rattle.pass.specs.declared.denials.Device.TheVariants.{Mass}
 use Rattle.pass.specs.declared.denials.Fault.{Fault}
-use Rattle.vessel.specs.Vessels.{Good}
+use Rattle.pass.specs.declared.masses.ReferenceMass.{ReferenceMass}
+use Rattle.vessel.specs.Vessels.{Good, Same as SameVolume}
 use Rattle.liquid.specs.Liquids.{Carries}
-use Rattle.reference.specs.References.{Weighs, faulted, Asked as Weighed}
-use Rattle.prover.specs.Masses.{mass_of, mass_ends}
+use Rattle.liquid.specs.Asking.{question_of}
+use Rattle.liquid.specs.Questions.{takes as liquid_takes}
+use Rattle.liquid.specs.declared.question.Question.{Question}
+use Rattle.reference.specs.References.{Weighs, Same, faulted, Asked as Weighed}
+use Rattle.prover.specs.Masses.{mass_of, mass_ends, measured, prover_takes, prover_fault}
 
 steps_worth : (n : ℕ) → Worth (steps (pos n)) (n * 1) (0 * 1) (1 * 100000000)
 steps_worth n = worth_div (lit< tt) (worth_nat n) (worth_nat 100000000)
@@ -160,3 +166,39 @@ mass_fault false b c d e f g h i j k l = absurd (grind arith)
 mass_fault true false c d e f g h i j k l = absurd (grind arith)
 mass_fault true true false d e f g h i j k l = absurd (grind arith)
 mass_fault true true true true e f g h i j k l = absurd (grind arith)
+
+-- what the prover's pair owes of a record that it takes, from what its vessel and its liquid owe
+pub prover_weighs : (t : Bool) (u : ℕ) (x y : Fraction) (v c : Ends) (r : Record) → u ≤ 1200 → (t ≡ true → Good u x v) → (liquid_takes (question_of r) ≡ true → Carries y c)
+    → prover_takes t r (mass_ends v r.density c) ≡ true → Weighs (mass_of x r.density y) (mass_ends v r.density c)
+prover_weighs t u x y v c r few good carries h =
+    let e = mass_ends v r.density c in
+    let a = both t (measured r && (liquid_takes (question_of r) && weighable e.low e.high)) h in
+    let b = both (measured r) (liquid_takes (question_of r) && weighable e.low e.high) a.1 in
+    let d = both (liquid_takes (question_of r)) (weighable e.low e.high) b.1 in
+    let f = both (temperate r.densitometer_temperature) (pressed r.densitometer_pressure && dense r.density) b.0 in
+    let i = both (pressed r.densitometer_pressure) (dense r.density) f.1 in
+    mass_weighs u x y v c r.density few (good a.0) (carries d.0) i.1 d.1
+
+-- records that are alike to the vessel, put the same question and have the same density get the same
+pub prover_same : {t t' : Bool} {f f' : Field} {x x' : Fraction} {v v' : Ends} (y : Question → Fraction) (c : Question → Ends) (p q : Record)
+    → SameVolume t t' f f' x x' v v' → question_of p ≡ question_of q → p.density ≡ q.density
+    → Same (prover_takes t p (mass_ends v p.density (c (question_of p)))) (prover_takes t' q (mass_ends v' q.density (c (question_of q))))
+    (prover_fault t f p) (prover_fault t' f' q)
+    (mass_of x p.density (y (question_of p))) (mass_of x' q.density (y (question_of q)))
+    (mass_ends v p.density (c (question_of p))) (mass_ends v' q.density (c (question_of q)))
+prover_same y c p q h question density =
+    let takes_same = h.takes_same in
+    let fault_same = h.fault_same in
+    let volume_same = h.volume_same in
+    let answer_same = h.answer_same in
+    let temperature = ap (λ (z : Question). z.densitometer_temperature) question in
+    let pressure = ap (λ (z : Question). z.densitometer_pressure) question in
+    record { takes_same = cc; fault_same = cc; mass_same = cc; answer_same = cc }
+
+-- the mass is given where all is taken
+pub mass_given : (a b c d : Bool) (e : Ends) (f : Fault) (m : ReferenceMass) → a ≡ true → b ≡ true → c ≡ true → d ≡ true → Has m.pair e → Weighed (a && (b && (c && d))) e f (Ok m)
+mass_given true true true true e f m h i j k l = l
+mass_given false b c d e f m h i j k l = absurd (grind arith)
+mass_given true false c d e f m h i j k l = absurd (grind arith)
+mass_given true true false d e f m h i j k l = absurd (grind arith)
+mass_given true true true false e f m h i j k l = absurd (grind arith)

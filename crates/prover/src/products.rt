@@ -3,37 +3,32 @@ ghost use Rattle.std.specs.Prelude.{◌≡◌, ◌*◌, ◌≤◌, pos, ◌≤�
 ghost use Rattle.exact.specs.Pairs.{floor as floored, ceiling};
 
 use exact::pair::Pair;
-use exact::rounding::{ceil, floor, natural};
+use exact::rounding::Quotient;
 
-/// One end's product: volume in µl, density in 0.01 kg/m³, factor in steps.
-fn product(volume: i64, density: u32, factor: i64) -> u128
-    requires volume { (pos 0 ≤ℤ volume) × (volume ≤ℤ pos 23000000000) }
-    requires density { density ≤ 120000 }
-    requires factor { (pos 0 ≤ℤ factor) × (factor ≤ℤ pos 120000000) }
-    ensures value { result ≡ unsigned_abs volume * density * unsigned_abs factor }
-    ensures most { result ≤ 331200000000000000000000 }
-{
-    natural(volume) * density as u128 * natural(factor)
+/// What one end of a mass is the product of.
+#[derive(Clone, Copy, Drop)]
+struct Factors {
+    /// In microlitres.
+    volume: u64,
+    /// In 0.01 kg/m³.
+    density: u32,
+    /// The carry factor, in steps.
+    carry: u64,
+    ghost ranged: { (volume ≤ 23000000000) × (density ≤ 120000) × (carry ≤ 120000000) },
 }
 
-/// The lower end of a mass, in milligrams.
-fn mass_floor(volume: i64, density: u32, factor: i64) -> i64
-    requires volume { (pos 0 ≤ℤ volume) × (volume ≤ℤ pos 23000000000) }
-    requires density { density ≤ 120000 }
-    requires factor { (pos 0 ≤ℤ factor) × (factor ≤ℤ pos 120000000) }
-    ensures { result ≡ pos (floored (unsigned_abs volume * density * unsigned_abs factor) 10000000000000) }
-{
-    floor(product(volume, density, factor), 10_000_000_000_000)
-}
-
-/// The upper end of a mass, in milligrams.
-fn mass_ceil(volume: i64, density: u32, factor: i64) -> i64
-    requires volume { (pos 0 ≤ℤ volume) × (volume ≤ℤ pos 23000000000) }
-    requires density { density ≤ 120000 }
-    requires factor { (pos 0 ≤ℤ factor) × (factor ≤ℤ pos 120000000) }
-    ensures { result ≡ pos (ceiling (unsigned_abs volume * density * unsigned_abs factor) 10000000000000) }
-{
-    ceil(product(volume, density, factor), 10_000_000_000_000)
+impl Factors {
+    /// The product in 10⁻¹³ mg, to be rounded to milligrams.
+    fn product(self) -> Quotient
+        ensures value { result.top ≡ self.volume * self.density * self.carry }
+        ensures most { result.top ≤ 331200000000000000000000 }
+        ensures unit { result.bottom ≡ 10000000000000 }
+    {
+        Quotient {
+            top: self.volume as u128 * self.density as u128 * self.carry as u128,
+            bottom: 10_000_000_000_000,
+        }
+    }
 }
 
 /// The pair of a mass, in milligrams.
@@ -44,8 +39,18 @@ pub fn weigh(volume: Pair, density: u32, factor: Pair) -> Pair
     ensures low { result.low ≡ pos (floored (unsigned_abs volume.low * density * unsigned_abs factor.low) 10000000000000) }
     ensures high { result.high ≡ pos (ceiling (unsigned_abs volume.high * density * unsigned_abs factor.high) 10000000000000) }
 {
+    let least = Factors {
+        volume: volume.low.unsigned_abs(),
+        density,
+        carry: factor.low.unsigned_abs(),
+    };
+    let most = Factors {
+        volume: volume.high.unsigned_abs(),
+        density,
+        carry: factor.high.unsigned_abs(),
+    };
     Pair {
-        low: mass_floor(volume.low, density, factor.low),
-        high: mass_ceil(volume.high, density, factor.high),
+        low: least.product().floor(),
+        high: most.product().ceil(),
     }
 }

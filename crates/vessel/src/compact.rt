@@ -54,6 +54,7 @@ impl CompactProver {
     }
 
     /// A volume at no pressure, in 10⁻⁶ µl, put under a pressure: the microlitres before they are rounded.
+    #[tactic(auto, using(crate::specs::Volumes::under_most))]
     fn under(&self, millionths: u128, pressure: Pressure) -> Quotient
         requires { millionths ≤ 20110000000000000 }
         ensures top { result.top ≡ millionths * strain self.now.section pressure.kilopascals }
@@ -68,6 +69,7 @@ impl CompactProver {
 
     /// The volume at a wall and a rod temperature and a pressure, in microlitres.
     /// The whole product would not fit 128 bits, so the volume at no pressure is rounded to 10⁻⁶ µl first.
+    #[tactic(auto, using(crate::specs::Volumes::compact_high, crate::specs::Volumes::compact_ordered, exact::proofs::Quotients::div_ceil_ceiling), unfolding(crate::specs::Provers::compact_ends))]
     fn volume_at(&self, wall: Temperature, rod: Temperature, pressure: Pressure) -> Pair
         ensures { Has result (compact_ends self.now wall.raised rod.raised pressure.kilopascals) }
     {

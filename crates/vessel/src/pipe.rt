@@ -35,6 +35,7 @@ impl PipeProver {
     }
 
     /// The volume at a wall temperature and a pressure, in microlitres.
+    #[tactic(auto, using(crate::specs::Volumes::pipe_top_most, crate::specs::Volumes::pipe_ends_most), unfolding(crate::specs::Provers::pipe_ends))]
     fn volume_at(&self, wall: Temperature, pressure: Pressure) -> Pair
         ensures { Has result (pipe_ends self.now wall.raised pressure.kilopascals) }
     {

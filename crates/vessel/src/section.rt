@@ -17,7 +17,7 @@ pub struct SectionFigures {
     pub modulus: i32,
 }
 
-/// What a prover's certificate says of its measuring section.
+/// A measuring section, each of its figures in range.
 #[derive(Clone, Copy, Drop)]
 pub struct Section {
     /// V0: the certified volume at 20 °C and no gauge pressure, in ml.
@@ -60,7 +60,6 @@ impl Section {
     pub fn strained(&self, pressure: Pressure) -> u128
         ensures { result ≡ strain self.now pressure.kilopascals }
     {
-        20_000 * self.modulus as u128 * self.wall as u128
-            + 19 * pressure.kilopascals as u128 * self.bore as u128
+        self.stiffness() + 19 * pressure.kilopascals as u128 * self.bore as u128
     }
 }

@@ -25,7 +25,7 @@ pub trait Vessel {
 
     ghost LEAST_CHECK: { ℕ };
 
-    // the width w of each vessel: one that is built on another has it from that one
+    // the width w
     ghost width: { Self → ℕ };
 
     // which records it takes
@@ -53,7 +53,7 @@ pub trait Vessel {
         }
     }
 
-    /// The width w, which no default body can know: a vessel that is built on another has it from that one.
+    /// The width w. It has no default body: a vessel that is built on another has its width from that one.
     fn spread(&self) -> u16
         ensures { result ≡ width self.now };
 

@@ -6,9 +6,9 @@ use pass::readings::Record;
 use std::alloc::{AllocError, Global};
 
 /// The whole numbers of a text, with one space between; nothing where a word is no whole number of 32 bits.
-/// A loop, since a word that is no number lets go what was read, and only memory is an error.
 pub fn numbers(alloc: Global, text: &str) -> Result<Vec<i32>, AllocError> {
     let mut found = Vec::new(alloc);
+    // A loop and no chain: want of memory is an error, but a word that is no number only leaves nothing.
     for word in text.split(' ') {
         let Ok(number) = word.parse::<i32>() else {
             return Ok(Vec::new(alloc));

@@ -14,7 +14,7 @@
 #![tactic(auto)]
 
 mod answers;
-mod certified;
+mod figures;
 mod lines;
 mod print;
 mod ranges;
@@ -27,7 +27,7 @@ use pass::kinds::{Correction, MeterFactor, PulseFactor};
 use petroleum::exponential::Exponential;
 use point::figures::Point;
 use ranges::{point_of, range_of};
-use std::alloc::{AllocError, AllocGlobal, Global};
+use std::alloc::{AllocError, Global};
 use vessel::provers::{CompactProver, PipeProver};
 use work::{against_master, against_prover, carry_of, volume_of};
 
@@ -57,6 +57,7 @@ fn answer(
     Ok(answered)
 }
 
+/// Prints the answer to a line; keeps a point, and lets the kept ones go after a range.
 fn serve(rt: &(impl Print + AllocGlobal), kept: &mut Vec<Point>, text: &str) -> anyhow::Result<()> {
     let (word, rest) = text.split_once(' ').unwrap_or((text, ""));
     let found = numbers(rt.alloc(), rest)?;

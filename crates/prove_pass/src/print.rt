@@ -16,6 +16,16 @@ struct Figure {
     unit: &'static str,
 }
 
+impl Figure {
+    fn new(name: &'static str, pair: Pair, unit: &'static str) -> Figure {
+        Figure { name, pair, unit }
+    }
+
+    fn in_steps(name: &'static str, pair: Pair) -> Figure {
+        Figure::new(name, pair, "steps")
+    }
+}
+
 impl fmt::Display for Figure {
     fn fmt<W: fmt::Write>(&self, f: &mut fmt::Formatter<W>) -> fmt::Result {
         let Figure { name, pair, unit } = self;
@@ -23,31 +33,14 @@ impl fmt::Display for Figure {
     }
 }
 
-/// A volume.
+/// The volume of a vessel.
 fn volume(pair: Pair) -> Figure {
-    Figure {
-        name: "volume",
-        pair,
-        unit: "µl",
-    }
+    Figure::new("volume", pair, "µl")
 }
 
-/// A mass.
-fn mass(name: &'static str, pair: Pair) -> Figure {
-    Figure {
-        name,
-        pair,
-        unit: "mg",
-    }
-}
-
-/// A figure in steps.
-fn steps(name: &'static str, pair: Pair) -> Figure {
-    Figure {
-        name,
-        pair,
-        unit: "steps",
-    }
+/// The carry factor of a liquid.
+fn carry_factor(pair: Pair) -> Figure {
+    Figure::in_steps("carry factor", pair)
 }
 
 /// Figures below a heading, each on a line of its own.
@@ -63,44 +56,36 @@ impl fmt::Display for Below<'_> {
     }
 }
 
-/// The six figures of a sheet.
+/// The figures of a sheet.
 fn of_sheet(sheet: &Sheet) -> [Figure; 6] {
     [
-        Figure {
-            name: "count",
-            pair: sheet.count,
-            unit: "ten-thousandths of a pulse",
-        },
-        mass("meter mass", sheet.meter_mass),
-        mass("reference mass", sheet.reference_mass),
-        Figure {
-            name: "K",
-            pair: sheet.pulse_factor,
-            unit: "steps of the set factor",
-        },
-        steps("MF", sheet.meter_factor),
-        steps("F", sheet.correction),
+        Figure::new("count", sheet.count, "ten-thousandths of a pulse"),
+        Figure::new("meter mass", sheet.meter_mass, "mg"),
+        Figure::new("reference mass", sheet.reference_mass, "mg"),
+        Figure::new("K", sheet.pulse_factor, "steps of the set factor"),
+        Figure::in_steps("MF", sheet.meter_factor),
+        Figure::in_steps("F", sheet.correction),
     ]
 }
 
 /// The figures of a point.
 fn of_point(point: &Point) -> [Figure; 4] {
     [
-        steps("mean", point.mean),
-        steps("S", point.scatter),
-        steps("S0", point.of_mean),
-        steps("ε", point.random),
+        Figure::in_steps("mean", point.mean),
+        Figure::in_steps("S", point.scatter),
+        Figure::in_steps("S0", point.of_mean),
+        Figure::in_steps("ε", point.random),
     ]
 }
 
 /// The figures of a range.
 fn of_range(range: &Range) -> [Figure; 5] {
     [
-        steps("S0", range.of_mean),
-        steps("ε", range.random),
-        steps("Θ_A", range.neighbours),
-        steps("Θ", range.systematic),
-        steps("error", range.error),
+        Figure::in_steps("S0", range.of_mean),
+        Figure::in_steps("ε", range.random),
+        Figure::in_steps("Θ_A", range.neighbours),
+        Figure::in_steps("Θ", range.systematic),
+        Figure::in_steps("error", range.error),
     ]
 }
 
@@ -124,14 +109,11 @@ impl fmt::Display for Rules {
 impl fmt::Display for Answer {
     fn fmt<W: fmt::Write>(&self, f: &mut fmt::Formatter<W>) -> fmt::Result {
         match self {
-            Answer::Volume(pair) => volume(*pair).fmt(f),
-            Answer::Carry(pair) => steps("carry factor", *pair).fmt(f),
+            Answer::Volume(pair) => write!(f, "{}", volume(*pair)),
+            Answer::Carry(pair) => write!(f, "{}", carry_factor(*pair)),
             Answer::Sheet(sheet) => write!(f, "sheet{}", Below(&of_sheet(sheet))),
             Answer::Proving(proving) => {
-                let devices = [
-                    volume(proving.volume),
-                    steps("carry factor", proving.factor),
-                ];
+                let devices = [volume(proving.volume), carry_factor(proving.factor)];
                 let sheet = of_sheet(&proving.sheet);
                 write!(f, "sheet{}{}", Below(&devices), Below(&sheet))
             }

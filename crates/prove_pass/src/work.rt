@@ -1,57 +1,61 @@
 // The work of each kind of line that has a record.
 use crate::answers::{Answer, Answered, Proving, Refusal};
-use crate::certified::Certified;
+use crate::figures::FromFigures;
 use crate::lines::figures_and_record;
 use liquid::meaning::Liquid;
 use liquid::question::Question;
 use pass::meter::Meter;
+use pass::readings::Record;
 use prover::prover::Prover;
 use reference::master::MasterMeter;
 use sheet::figures::Sheet;
 use vessel::vessel::Vessel;
 
-/// A pass against a master meter.
-pub fn against_master(numbers: &[i32]) -> Answered {
-    let (figures, pass) = figures_and_record(numbers, 2).ok_or(Refusal::Unread)?;
-    let &[set_factor, factor] = figures else {
-        return Err(Refusal::Unread);
-    };
-    let meter = Meter::open(set_factor)?;
-    let master = MasterMeter::open(factor)?;
-    let sheet = Sheet::against(&meter, &master, &pass)?;
-    Ok(Answer::Sheet(sheet))
+/// What a line's figures open, and the record of its pass.
+fn opened_and_record<T: FromFigures>(numbers: &[i32]) -> Result<(T, Record), Refusal> {
+    let count = usize::from(T::FIGURES);
+    let (figures, pass) = figures_and_record(numbers, count).ok_or(Refusal::Unread)?;
+    Ok((T::from_figures(figures)?, pass))
 }
 
 /// The volume of a vessel in a pass.
-pub fn volume_of<V: Vessel + Certified>(numbers: &[i32]) -> Answered {
-    let (figures, pass) = figures_and_record(numbers, usize::from(V::FIGURES)).ok_or(
-        Refusal::Unread,
-    )?;
-    let vessel = V::certified(figures)?;
+pub fn volume_of<V: Vessel + FromFigures>(numbers: &[i32]) -> Answered {
+    let (vessel, pass) = opened_and_record::<V>(numbers)?;
     Ok(Answer::Volume(vessel.ask(&pass)?))
 }
 
 /// The carry factor of a liquid in a pass.
-pub fn carry_of<L: Liquid + Certified>(numbers: &[i32]) -> Answered {
-    let (figures, pass) = figures_and_record(numbers, usize::from(L::FIGURES)).ok_or(
-        Refusal::Unread,
-    )?;
-    let liquid = L::certified(figures)?;
+pub fn carry_of<L: Liquid + FromFigures>(numbers: &[i32]) -> Answered {
+    let (liquid, pass) = opened_and_record::<L>(numbers)?;
     Ok(Answer::Carry(liquid.ask(&Question::of(&pass))?))
 }
 
-/// A pass against a prover of any vessel and any liquid: their figures are denied before the meter's set factor.
-pub fn against_prover<V: Vessel + Certified, L: Liquid + Certified>(numbers: &[i32]) -> Answered {
-    let vessel_figures = usize::from(V::FIGURES);
-    let count = 1 + vessel_figures + usize::from(L::FIGURES);
-    let (figures, pass) = figures_and_record(numbers, count).ok_or(Refusal::Unread)?;
-    let [set_factor, certificates @ ..] = figures else {
-        return Err(Refusal::Unread);
+/// A pass against a master meter.
+pub fn against_master(numbers: &[i32]) -> Answered {
+    let (figures, pass) = figures_and_record(numbers, 2).ok_or(Refusal::Unread)?;
+    let &[set_factor, factor] = figures else {
+        unreachable!();
     };
-    let (of_vessel, of_liquid) = certificates.split_at(vessel_figures);
+    let meter = Meter::open(set_factor)?;
+    let master = MasterMeter::open(factor)?;
+    Ok(Answer::Sheet(Sheet::against(&meter, &master, &pass)?))
+}
+
+/// A pass against a prover of any vessel and any liquid, whose figures are denied before the meter's set factor.
+pub fn against_prover<V: Vessel + FromFigures, L: Liquid + FromFigures>(
+    numbers: &[i32],
+) -> Answered {
+    let of_vessel = usize::from(V::FIGURES);
+    let of_liquid = usize::from(L::FIGURES);
+    let count = 1 + of_vessel + of_liquid;
+    let (figures, pass) = figures_and_record(numbers, count).ok_or(Refusal::Unread)?;
+    let [set_factor, others @ ..] = figures else {
+        unreachable!();
+    };
+    let (vessel, liquid) = others.split_at(of_vessel);
     let prover = Prover {
-        vessel: V::certified(of_vessel)?,
-        liquid: L::certified(of_liquid)?,
+        vessel: V::from_figures(vessel)?,
+        liquid: L::from_figures(liquid)?,
     };
     let meter = Meter::open(*set_factor)?;
     let sheet = Sheet::against(&meter, &prover, &pass)?;

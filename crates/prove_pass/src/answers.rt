@@ -1,4 +1,7 @@
 // What a line is answered, or why it gets no figures.
+ghost use Rattle.std.specs.Prelude.{◌≡◌};
+ghost use Rattle.prove_pass.specs.declared.answers.Refusal.TheVariants.{Denied, Faulted};
+
 use exact::pair::Pair;
 use pass::denials::{Denial, Field};
 use point::figures::Point;
@@ -44,12 +47,16 @@ pub enum Refusal {
 }
 
 impl From<Denial> for Refusal {
+    ghost from_gives = { λ denial refusal. refusal ≡ Denied denial };
+
     fn from(denial: Denial) -> Refusal {
         Refusal::Denied(denial)
     }
 }
 
 impl From<Field> for Refusal {
+    ghost from_gives = { λ field refusal. refusal ≡ Faulted field };
+
     fn from(field: Field) -> Refusal {
         Refusal::Faulted(field)
     }

@@ -6,13 +6,14 @@ use pass::readings::Record;
 use std::alloc::{AllocError, Global};
 
 /// The whole numbers of a text, with one space between; nothing where a word is no whole number of 32 bits.
-pub fn numbers(heap: Global, text: &str) -> Result<Vec<i32>, AllocError> {
-    let mut found = Vec::new(heap);
+pub fn numbers(alloc: Global, text: &str) -> Result<Vec<i32>, AllocError> {
+    let mut found = Vec::new(alloc);
+    // A loop and no chain: want of memory is an error, but a word that is no number only leaves nothing.
     for word in text.split(' ') {
-        match word.parse::<i32>() {
-            Ok(n) => found.push(n)?,
-            Err(_) => return Ok(Vec::new(heap)),
-        }
+        let Ok(number) = word.parse::<i32>() else {
+            return Ok(Vec::new(alloc));
+        };
+        found.push(number)?;
     }
     Ok(found)
 }
@@ -21,12 +22,6 @@ pub fn numbers(heap: Global, text: &str) -> Result<Vec<i32>, AllocError> {
 pub fn figures_and_record(numbers: &[i32], figures: usize) -> Option<(&[i32], Record)>
     ensures { MatchOption result (length numbers.now ≢ figures + 11) (λ l. (l.0.now ≡ take figures numbers.now) × (length l.0.now ≡ figures) × InOrder l.1 (drop figures numbers.now)) }
 {
-    if figures > numbers.len() {
-        return None;
-    }
-    let (front, fields) = numbers.split_at(figures);
-    match Record::of(fields) {
-        Some(pass) => Some((front, pass)),
-        None => None,
-    }
+    let (front, fields) = numbers.split_at_checked(figures)?;
+    Some((front, Record::of(fields)?))
 }

@@ -14,47 +14,63 @@
 #![tactic(auto)]
 
 mod answers;
+mod figures;
 mod lines;
 mod print;
 mod ranges;
 mod work;
 
+use answers::{Answer, Answered, Refusal};
 use lines::numbers;
+use liquid::linear::Linear;
+use pass::kinds::{Correction, MeterFactor, PulseFactor};
+use petroleum::exponential::Exponential;
 use point::figures::Point;
 use ranges::{point_of, range_of};
+use std::alloc::{AllocError, Global};
+use vessel::provers::{CompactProver, PipeProver};
+use work::{against_master, against_prover, carry_of, volume_of};
 
-fn answer(word: &str, numbers: &[i32]) -> answers::Answer {
-    match word {
-        "master" => work::against_master(numbers),
-        "pipe" => work::in_pipe(numbers),
-        "compact" => work::in_compact(numbers),
-        "linear" => work::by_linear(numbers),
-        "exponential" => work::by_exponential(numbers),
-        "pipe-linear" => work::pipe_and_linear(numbers),
-        "pipe-exponential" => work::pipe_and_exponential(numbers),
-        "compact-linear" => work::compact_and_linear(numbers),
-        "compact-exponential" => work::compact_and_exponential(numbers),
-        _ => answers::Answer::Unread,
-    }
+/// The answer to a line, by its word and its numbers.
+fn answer(
+    alloc: Global,
+    kept: &[Point],
+    word: &str,
+    numbers: &[i32],
+) -> Result<Answered, AllocError> {
+    let answered = match word {
+        "master" => against_master(numbers),
+        "pipe" => volume_of::<PipeProver>(numbers),
+        "compact" => volume_of::<CompactProver>(numbers),
+        "linear" => carry_of::<Linear>(numbers),
+        "exponential" => carry_of::<Exponential>(numbers),
+        "pipe-linear" => against_prover::<PipeProver, Linear>(numbers),
+        "pipe-exponential" => against_prover::<PipeProver, Exponential>(numbers),
+        "compact-linear" => against_prover::<CompactProver, Linear>(numbers),
+        "compact-exponential" => against_prover::<CompactProver, Exponential>(numbers),
+        "point-K" => point_of::<PulseFactor>(alloc, numbers)?,
+        "point-MF" => point_of::<MeterFactor>(alloc, numbers)?,
+        "point-F" => point_of::<Correction>(alloc, numbers)?,
+        "range" => range_of(alloc, kept, numbers)?,
+        _ => Err(Refusal::Unread),
+    };
+    Ok(answered)
 }
 
-fn serve(rt: &HostRuntime, kept: &mut Vec<Point>, text: &str) -> anyhow::Result<()> {
+/// Prints the answer to a line; keeps a point, and lets the kept ones go after a range.
+fn serve(rt: &(impl Print + AllocGlobal), kept: &mut Vec<Point>, text: &str) -> anyhow::Result<()> {
     let (word, rest) = text.split_once(' ').unwrap_or((text, ""));
     let found = numbers(rt.alloc(), rest)?;
-    match word {
-        "point-K" | "point-MF" | "point-F" => {
-            let p = point_of(rt.alloc(), word, found.as_slice())?;
-            print::point(rt, &p)?;
-            if let Some(p) = p {
-                kept.push(p)?;
-            }
-        }
-        "range" => {
-            let r = range_of(rt.alloc(), kept, found.as_slice())?;
-            print::range(rt, &r)?;
-            kept.clear();
-        }
-        _ => print::answer(rt, answer(word, found.as_slice()))?,
+    let answered = answer(rt.alloc(), kept.as_slice(), word, found.as_slice())?;
+    match answered {
+        Ok(answer) => println!(rt; "{answer}")?,
+        Err(refusal) => println!(rt; "{refusal}")?,
+    }
+    if word == "range" {
+        kept.clear();
+    }
+    if let Ok(Answer::Point(point)) = answered {
+        kept.push(point)?;
     }
     Ok(())
 }

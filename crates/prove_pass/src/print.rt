@@ -1,106 +1,148 @@
-// What the program prints.
-use crate::answers::{Answer, Proving};
+// How answers and refusals are printed.
+use crate::answers::{Answer, Refusal};
 use exact::pair::Pair;
 use pass::denials::Denial;
 use point::figures::Point;
 use range::figures::Range;
 use range::left::Left;
 use sheet::figures::Sheet;
-use std::io;
+use std::fmt;
 
-/// A pair, lower end first.
-fn pair(rt: &HostRuntime, name: &str, p: Pair, unit: &str) -> io::Result<()> {
-    let low = p.low;
-    let high = p.high;
-    println!(rt; "{name} {low} {high} {unit}")
+/// A figure under its name: a pair, lower end first, and its unit.
+#[derive(Drop)]
+struct Figure {
+    name: &'static str,
+    pair: Pair,
+    unit: &'static str,
 }
 
-/// The six pairs of a sheet.
-fn figures(rt: &HostRuntime, s: Sheet) -> io::Result<()> {
-    pair(rt, "  count", s.count, "ten-thousandths of a pulse")?;
-    pair(rt, "  meter mass", s.meter_mass, "mg")?;
-    pair(rt, "  reference mass", s.reference_mass, "mg")?;
-    pair(rt, "  K", s.pulse_factor, "steps of the set factor")?;
-    pair(rt, "  MF", s.meter_factor, "steps")?;
-    pair(rt, "  F", s.correction, "steps")
-}
+impl Figure {
+    fn new(name: &'static str, pair: Pair, unit: &'static str) -> Figure {
+        Figure { name, pair, unit }
+    }
 
-/// A pass against a prover.
-fn proved(rt: &HostRuntime, p: Proving) -> io::Result<()> {
-    pair(rt, "  volume", p.volume, "µl")?;
-    pair(rt, "  carry factor", p.factor, "steps")?;
-    figures(rt, p.sheet)
-}
-
-/// A denial: its number, and what it carries.
-fn denied(rt: &HostRuntime, d: Denial) -> io::Result<()> {
-    let number = d.number();
-    let (first, second) = d.carried();
-    match d {
-        Denial::Figure(_) => println!(rt; "denied {number} place {first}"),
-        Denial::Meter(_) => println!(rt; "denied {number} field {first}"),
-        Denial::Reference(_) => println!(rt; "denied {number} device {first} field {second}"),
-        Denial::Value => println!(rt; "denied {number}"),
+    fn in_steps(name: &'static str, pair: Pair) -> Figure {
+        Figure::new(name, pair, "steps")
     }
 }
 
-/// The answer to a line.
-pub fn answer(rt: &HostRuntime, a: Answer) -> io::Result<()> {
-    match a {
-        Answer::Unread => println!(rt; "?"),
-        Answer::Denied(d) => denied(rt, d),
-        Answer::Faulted(field) => {
-            let f = field.number();
-            println!(rt; "fault field {f}")
-        }
-        Answer::Volume(p) => pair(rt, "volume", p, "µl"),
-        Answer::Carry(p) => pair(rt, "carry factor", p, "steps"),
-        Answer::Figures(s) => {
-            println!(rt; "sheet")?;
-            figures(rt, s)
-        }
-        Answer::Proved(p) => {
-            println!(rt; "sheet")?;
-            proved(rt, p)
-        }
+impl fmt::Display for Figure {
+    fn fmt<W: fmt::Write>(&self, f: &mut fmt::Formatter<W>) -> fmt::Result {
+        let Figure { name, pair, unit } = self;
+        write!(f, "{name} {} {} {unit}", pair.low, pair.high)
     }
 }
 
-/// The figures of a point, or `?` where its rows do not fit.
-pub fn point(rt: &HostRuntime, found: &Option<Point>) -> io::Result<()> {
-    let Some(p) = found else {
-        return println!(rt; "?");
-    };
-    println!(rt; "point")?;
-    pair(rt, "  mean", p.mean, "steps")?;
-    pair(rt, "  S", p.scatter, "steps")?;
-    pair(rt, "  S0", p.of_mean, "steps")?;
-    pair(rt, "  ε", p.random, "steps")
+/// The volume of a vessel.
+fn volume(pair: Pair) -> Figure {
+    Figure::new("volume", pair, "µl")
+}
+
+/// The carry factor of a liquid.
+fn carry_factor(pair: Pair) -> Figure {
+    Figure::in_steps("carry factor", pair)
+}
+
+/// Figures below a heading, each on a line of its own.
+#[derive(Drop)]
+struct Below<'a>(&'a [Figure]);
+
+impl fmt::Display for Below<'_> {
+    fn fmt<W: fmt::Write>(&self, f: &mut fmt::Formatter<W>) -> fmt::Result {
+        for figure in self.0 {
+            write!(f, "\n  {figure}")?;
+        }
+        Ok(())
+    }
+}
+
+/// The figures of a sheet.
+fn of_sheet(sheet: &Sheet) -> [Figure; 6] {
+    [
+        Figure::new("count", sheet.count, "ten-thousandths of a pulse"),
+        Figure::new("meter mass", sheet.meter_mass, "mg"),
+        Figure::new("reference mass", sheet.reference_mass, "mg"),
+        Figure::new("K", sheet.pulse_factor, "steps of the set factor"),
+        Figure::in_steps("MF", sheet.meter_factor),
+        Figure::in_steps("F", sheet.correction),
+    ]
+}
+
+/// The figures of a point.
+fn of_point(point: &Point) -> [Figure; 4] {
+    [
+        Figure::in_steps("mean", point.mean),
+        Figure::in_steps("S", point.scatter),
+        Figure::in_steps("S0", point.of_mean),
+        Figure::in_steps("ε", point.random),
+    ]
+}
+
+/// The figures of a range.
+fn of_range(range: &Range) -> [Figure; 5] {
+    [
+        Figure::in_steps("S0", range.of_mean),
+        Figure::in_steps("ε", range.random),
+        Figure::in_steps("Θ_A", range.neighbours),
+        Figure::in_steps("Θ", range.systematic),
+        Figure::in_steps("error", range.error),
+    ]
 }
 
 /// Which rules for the error are left.
-fn rule(left: Left) -> &'static str {
-    match left {
-        Left::Systematic => "Θ",
-        Left::Random => "ε",
-        Left::Mixed => "0.81(Θ + ε)",
-        Left::Upper => "Θ or 0.81(Θ + ε)",
-        Left::Lower => "ε or 0.81(Θ + ε)",
-        Left::Both => "Θ, ε or 0.81(Θ + ε)",
+#[derive(Drop)]
+struct Rules(Left);
+
+impl fmt::Display for Rules {
+    fn fmt<W: fmt::Write>(&self, f: &mut fmt::Formatter<W>) -> fmt::Result {
+        f.write_str(match self.0 {
+            Left::Systematic => "Θ",
+            Left::Random => "ε",
+            Left::Mixed => "0.81(Θ + ε)",
+            Left::Upper => "Θ or 0.81(Θ + ε)",
+            Left::Lower => "ε or 0.81(Θ + ε)",
+            Left::Both => "Θ, ε or 0.81(Θ + ε)",
+        })
     }
 }
 
-/// The figures of a range, or `?` where its points or limits do not fit.
-pub fn range(rt: &HostRuntime, found: &Option<Range>) -> io::Result<()> {
-    let Some(r) = found else {
-        return println!(rt; "?");
-    };
-    println!(rt; "range")?;
-    pair(rt, "  S0", r.of_mean, "steps")?;
-    pair(rt, "  ε", r.random, "steps")?;
-    pair(rt, "  Θ_A", r.neighbours, "steps")?;
-    pair(rt, "  Θ", r.systematic, "steps")?;
-    pair(rt, "  error", r.error, "steps")?;
-    let by = rule(r.left);
-    println!(rt; "  by {by}")
+impl fmt::Display for Answer {
+    fn fmt<W: fmt::Write>(&self, f: &mut fmt::Formatter<W>) -> fmt::Result {
+        match self {
+            Answer::Volume(pair) => write!(f, "{}", volume(*pair)),
+            Answer::Carry(pair) => write!(f, "{}", carry_factor(*pair)),
+            Answer::Sheet(sheet) => write!(f, "sheet{}", Below(&of_sheet(sheet))),
+            Answer::Proving(proving) => {
+                let devices = [volume(proving.volume), carry_factor(proving.factor)];
+                let sheet = of_sheet(&proving.sheet);
+                write!(f, "sheet{}{}", Below(&devices), Below(&sheet))
+            }
+            Answer::Point(point) => write!(f, "point{}", Below(&of_point(point))),
+            Answer::Range(range) => {
+                let figures = of_range(range);
+                write!(f, "range{}\n  by {}", Below(&figures), Rules(range.left))
+            }
+        }
+    }
+}
+
+impl fmt::Display for Refusal {
+    fn fmt<W: fmt::Write>(&self, f: &mut fmt::Formatter<W>) -> fmt::Result {
+        match self {
+            Refusal::Unread => write!(f, "?"),
+            Refusal::Denied(denial) => {
+                let number = denial.number();
+                let (first, second) = denial.carried();
+                match denial {
+                    Denial::Figure(_) => write!(f, "denied {number} place {first}"),
+                    Denial::Meter(_) => write!(f, "denied {number} field {first}"),
+                    Denial::Reference(_) => {
+                        write!(f, "denied {number} device {first} field {second}")
+                    }
+                    Denial::Value => write!(f, "denied {number}"),
+                }
+            }
+            Refusal::Faulted(field) => write!(f, "fault field {}", field.number()),
+        }
+    }
 }

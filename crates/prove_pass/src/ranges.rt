@@ -1,53 +1,40 @@
 // Points and the range that they span.
-use pass::kinds::{Correction, MeterFactor, PulseFactor};
+use crate::answers::{Answer, Answered, Refusal};
 use point::ends::Ends;
 use point::figures::Point;
+use point::statistic::Statistic;
 use point::working::point;
-use range::figures::Range;
 use range::judging::range;
 use std::alloc::{AllocError, Global};
 
-/// The rows of a point, from their ends one after the other; the last number of an odd count is left out.
-fn rows(heap: Global, numbers: &[i32]) -> Result<Vec<Ends>, AllocError> {
-    let mut found = Vec::new(heap);
-    for i in 0..numbers.len() / 2 {
-        found.push(Ends {
-            low: numbers[2 * i] as i64,
-            high: numbers[2 * i + 1] as i64,
-        })?;
-    }
-    Ok(found)
-}
-
-/// The given limits, in steps; a negative one becomes one that is out of range.
-fn limits(heap: Global, numbers: &[i32]) -> Result<Vec<u32>, AllocError> {
-    let mut found = Vec::new(heap);
-    for n in numbers {
-        found.push(u32::try_from(*n).unwrap_or(u32::MAX))?;
-    }
-    Ok(found)
-}
-
-/// A point of the kind that a word names, from the ends of its rows.
-pub fn point_of(heap: Global, word: &str, numbers: &[i32]) -> Result<Option<Point>, AllocError> {
-    if numbers.len() % 2 != 0 {
-        return Ok(None);
-    }
-    let found = rows(heap, numbers)?;
-    let answer = match word {
-        "point-K" => point::<PulseFactor>(found.as_slice()),
-        "point-MF" => point::<MeterFactor>(found.as_slice()),
-        _ => point::<Correction>(found.as_slice()),
+/// A point of a kind of value, from the two ends of each row, one after the other.
+pub fn point_of<V: Statistic>(alloc: Global, numbers: &[i32]) -> Result<Answered, AllocError> {
+    let (ends, []) = numbers.as_chunks::<2>() else {
+        return Ok(Err(Refusal::Unread));
     };
-    Ok(answer)
+    let rows: Vec<Ends> = ends
+        .iter()
+        .map(|&[low, high]| Ends {
+            low: i64::from(low),
+            high: i64::from(high),
+        })
+        .collect(alloc)?;
+    Ok(
+        point::<V>(rows.as_slice())
+            .map(Answer::Point)
+            .ok_or(Refusal::Unread),
+    )
 }
 
-/// The range that points span, with its given limits.
-pub fn range_of(
-    heap: Global,
-    points: &Vec<Point>,
-    numbers: &[i32],
-) -> Result<Option<Range>, AllocError> {
-    let given = limits(heap, numbers)?;
-    Ok(range(points.as_slice(), given.as_slice()))
+/// The range that points span, with its given limits, in steps; a negative limit becomes one that is out of range.
+pub fn range_of(alloc: Global, points: &[Point], numbers: &[i32]) -> Result<Answered, AllocError> {
+    let limits: Vec<u32> = numbers
+        .iter()
+        .map(|&limit| u32::try_from(limit).unwrap_or(u32::MAX))
+        .collect(alloc)?;
+    Ok(
+        range(points, limits.as_slice())
+            .map(Answer::Range)
+            .ok_or(Refusal::Unread),
+    )
 }

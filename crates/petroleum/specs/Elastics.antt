@@ -159,21 +159,21 @@ elastic_falls f t q p size i j h n =
     record { near = elastic_near f t q p (terms size 9).even (terms size 9).odd (1000000000000000000 + (terms size 9).odd * p - (terms size 9).even * p) i w.0 j w.1 (sum_falling (compression_exponent f t) size (omega arith) n); least = r.0; most = r.1 }
 
 -- the exponent's two parts in units
-over_under : (l : Exponential) (n : ℕ) → (over_density_lem l n * (l.density * l.density) ≤ 1000000000000 * (8288680000 + 420920 * n)) × (1000000000000 * (8288680000 + 420920 * n) ≤ over_density_lem l n * (l.density * l.density) + l.density * l.density)
+over_under : (l : Exponential) (n : ℕ) → (over_density_lem l n * (l.density.hundredths * l.density.hundredths) ≤ 1000000000000 * (8288680000 + 420920 * n)) × (1000000000000 * (8288680000 + 420920 * n) ≤ over_density_lem l n * (l.density.hundredths * l.density.hundredths) + l.density.hundredths * l.density.hundredths)
 unfolding over_density_lem
 over_under l n =
-    let d : 0 < l.density = omega (arith, l.dense.0) in
-    let f = floor_under (1000000000000 * (8288680000 + 420920 * n)) (l.density * l.density) (mul-pos d d) in
+    let d : 0 < l.density.hundredths = omega (arith, l.density.ranged.0) in
+    let f = floor_under (1000000000000 * (8288680000 + 420920 * n)) (l.density.hundredths * l.density.hundredths) (mul-pos d d) in
     (f.0, omega (arith, f.1))
 
 beside_is : (n : ℕ) → beside_density_lem n ≡ 100 * (16229592000 - 21592 * n)
 unfolding beside_density_lem
 beside_is n = refl
 
-exponent_at : (l : Exponential) (t : ℤ) (n : ℕ) → t +ℤ pos 1000 ≡ pos n → Worth (compression_exponent (figures l) t) (10000000000 * (8288680000 + 420920 * n) + 21592 * n * (l.density * l.density)) (16229592000 * (l.density * l.density)) (10000000000 * (l.density * l.density))
+exponent_at : (l : Exponential) (t : ℤ) (n : ℕ) → t +ℤ pos 1000 ≡ pos n → Worth (compression_exponent (figures l) t) (10000000000 * (8288680000 + 420920 * n) + 21592 * n * (l.density.hundredths * l.density.hundredths)) (16229592000 * (l.density.hundredths * l.density.hundredths)) (10000000000 * (l.density.hundredths * l.density.hundredths))
 exponent_at l t n i =
-    let d : 0 < l.density = omega (arith, l.dense.0) in
-    exponent_worth (figures l) t n (l.density * l.density) (mul-pos d d) (squared_worth (figures l) l.density refl) i
+    let d : 0 < l.density.hundredths = omega (arith, l.density.ranged.0) in
+    exponent_worth (figures l) t n (l.density.hundredths * l.density.hundredths) (mul-pos d d) (squared_worth (figures l) l.density.hundredths refl) i
 
 -- not negative
 above_worth : {x : Fraction} (n b U W Z : ℕ) → W + 21592 * n ≡ 16229592000 → Z + W * b ≡ 10000000000 * U → Worth x (10000000000 * U + 21592 * n * b) (16229592000 * b) (10000000000 * b) → Worth x Z 0 (10000000000 * b)
@@ -196,13 +196,13 @@ module _ (l : Exponential) (t : ℤ) (n : ℕ) (warm : n ≤ 6000) (at : t +ℤ 
       let k = beside_is n in
       let W = 16229592000 - 21592 * n in
       let U = 8288680000 + 420920 * n in
-      let b = l.density * l.density in
+      let b = l.density.hundredths * l.density.hundredths in
       let is : W + 21592 * n ≡ 16229592000 = omega arith in
       let room = above_n (over_density_lem l n) W U b (omega arith) o.0 in
       let Z = 10000000000 * U - W * b in
       let top : Z + W * b ≡ 10000000000 * U = omega arith in
       let s = above_near (over_density_lem l n) W U b (over_density_lem l n - beside_density_lem n) Z (omega arith) top o.0 o.1 in
-      let m = above_most (over_density_lem l n) W U b n (square_least l.density l.dense.0) warm refl is o.0 in
+      let m = above_most (over_density_lem l n) W U b n (square_least l.density.hundredths l.density.ranged.0) warm refl is o.0 in
       (omega arith, record { top = Z; bottom = 10000000000 * b; worth = above_worth n b U W Z is top (exponent_at l t n at); least = s.0; most = s.1 })
 
   below_exponent : over_density_lem l n < beside_density_lem n → (beside_density_lem n - over_density_lem l n ≤ 1050000000000) × Near 4 (beside_density_lem n - over_density_lem l n) (neg (compression_exponent (figures l) t))
@@ -211,13 +211,13 @@ module _ (l : Exponential) (t : ℤ) (n : ℕ) (warm : n ≤ 6000) (at : t +ℤ 
       let k = beside_is n in
       let W = 16229592000 - 21592 * n in
       let U = 8288680000 + 420920 * n in
-      let b = l.density * l.density in
+      let b = l.density.hundredths * l.density.hundredths in
       let is : W + 21592 * n ≡ 16229592000 = omega arith in
       let room = below_n (over_density_lem l n) W U b (omega arith) o.1 in
       let Z = W * b - 10000000000 * U in
       let top : Z + 10000000000 * U ≡ W * b = omega arith in
       let s = below_near (over_density_lem l n) W U b (beside_density_lem n - over_density_lem l n) Z (omega arith) top o.0 o.1 in
-      let m = below_most (over_density_lem l n) W U b n (square_most l.density l.dense.1) refl is o.1 in
+      let m = below_most (over_density_lem l n) W U b n (square_most l.density.hundredths l.density.ranged.1) refl is o.1 in
       (omega arith, record { top = Z; bottom = 10000000000 * b; worth = below_worth n b U W Z is top (exponent_at l t n at); least = s.0; most = s.1 })
 
 pub above_units : (l : Exponential) (n p : ℕ) → beside_density_lem n ≤ over_density_lem l n → elastic_units l n p ≡ elastic_rising_lem (over_density_lem l n - beside_density_lem n) p

@@ -8,5 +8,5 @@ pub returns : goal.returns
 unfolding slope
 returns c =
     let most = slope_most c.args.self.now in
-    let square = square_most c.args.self.now.density c.args.self.now.dense.1 in
+    let square = square_most c.args.self.now.density.hundredths c.args.self.now.density.ranged.1 in
     search rules

@@ -6,5 +6,5 @@ use Rattle.petroleum.proofs.exponential.Exponential.straight.Goals as goal
 pub returns : goal.returns
 unfolding straight
 returns c =
-    let most = straight_small c.args.self.now c.args.temperature c.requires.warm in
+    let most = straight_small c.args.self.now c.args.temperature.raised c.args.temperature.ranged in
     search rules

@@ -1,7 +1,7 @@
 use Rattle.std.proofs.Common.{arith, rules}
 use Rattle.expsum.proofs.Bounds.{sized}
 use Rattle.petroleum.specs.Rounded.{falling}
-use Rattle.petroleum.proofs.carrying.falling.Goals as goal
+use Rattle.petroleum.proofs.units.falling.Goals as goal
 
 pub overflow_sub-result : goal.overflow_sub-result
 overflow_sub-result c =

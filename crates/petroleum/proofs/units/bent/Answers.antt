@@ -1,7 +1,7 @@
 use Rattle.std.proofs.Common.{rules}
 use Rattle.petroleum.specs.Rounded.{bent}
 use Rattle.petroleum.specs.Thermals.{bent_less}
-use Rattle.petroleum.proofs.carrying.bent.Goals as goal
+use Rattle.petroleum.proofs.units.bent.Goals as goal
 
 pub returns : goal.returns
 unfolding bent

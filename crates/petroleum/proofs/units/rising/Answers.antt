@@ -3,7 +3,7 @@ use Rattle.expsum.specs.Terms.{terms}
 use Rattle.expsum.proofs.Bounds.{sized}
 use Rattle.petroleum.specs.Rounded.{rising}
 use Rattle.petroleum.specs.Elastics.{sums_most}
-use Rattle.petroleum.proofs.carrying.rising.Goals as goal
+use Rattle.petroleum.proofs.units.rising.Goals as goal
 
 pub overflow_add-result : goal.overflow_add-result
 overflow_add-result c =

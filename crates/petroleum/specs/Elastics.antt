@@ -1,7 +1,7 @@
 -- The elastic part of the exponential liquid: 1 − gP in whole units of 10⁻¹².
 -- The exponent of 1,000·g is U/b − W/10¹⁰, where b is the density's square in its unit.
 use Rattle.std.specs.Prelude.{◌≡◌, ℕ, ◌+◌, ◌-◌, ◌*◌, ◌/◌, ◌<◌, ◌≤◌, true, false, ℤ, pos, ◌+ℤ◌, ◌-ℤ◌, nat_le, refl}
-use Rattle.std.proofs.Common.{sym, subst, inl, inr, arith, mul-pos, mul-le-mul, mul-le-mul_left, mul-le-mul_right, le_of_mul-le-mul_right, lit<}
+use Rattle.std.proofs.Common.{sym, subst, ◌∙◌, inl, inr, arith, mul-pos, mul-le-mul, mul-le-mul_left, mul-le-mul_right, le_of_mul-le-mul_right, lit<}
 use Rattle.std.proofs.lemmas.Int.{ints}
 use Rattle.std.proofs.lemmas.Bool.{cases_lt}
 use Rattle.std.proofs.lemmas.Bool.Decides.{nat_tests}
@@ -11,10 +11,10 @@ use Rattle.exact.proofs.Quotients.{floor_under}
 use Rattle.expsum.specs.Series.{e}
 use Rattle.expsum.specs.Terms.{terms}
 use Rattle.expsum.proofs.Near.{Near, Close}
-use Rattle.expsum.proofs.Bounds.{Sized, sized}
+use Rattle.expsum.proofs.Bounds.{Sized, sized, odd_less}
 use Rattle.expsum.proofs.Sums.{sum_rising, sum_falling}
 use Rattle.petroleum.specs.Exponential.{Figures, figures, density_squared, compression_exponent, compressibility, elastic}
-use Rattle.petroleum.specs.Rounded.{rising, over_density_lem, beside_density_lem, elastic_rising_lem, elastic_falling_lem, elastic_units}
+use Rattle.petroleum.specs.Rounded.{rising, falling, over_density_lem, beside_density_lem, elastic_rising, elastic_falling, compressibility_units, elastic_units}
 use Rattle.petroleum.specs.declared.exponential.Exponential.{Exponential}
 use Rattle.liquid.specs.Readings.{parts_worth, degrees_worth, megapascals_worth}
 use Rattle.petroleum.specs.Openings.{squared_worth, square_least, square_most}
@@ -134,8 +134,8 @@ range_n H l m = let g = floor_under H 1000000 (lit< tt) in (omega (arith, g.1), 
 rising_whole : (P p : ℕ) → P ≤ 4360000000000 → p ≤ 10000 → ((1000000000000000000 - P * p) + P * p ≡ 1000000000000000000 + 0 * p) × (956400000000000000 ≤ 1000000000000000000 - P * p)
 rising_whole P p h i = let a : P * p ≤ 4360000000000 * 10000 = mul-le-mul h i in (omega arith, omega arith)
 
-pub elastic_rises : (f : Figures) (t q : ℤ) (p size : ℕ) → p ≤ 10000 → q ≡ pos p → size ≤ 1400000000000 → Near 4 size (compression_exponent f t) → Elastic (elastic_rising_lem size p) (elastic f t q)
-unfolding elastic_rising_lem rising
+pub elastic_rises : (f : Figures) (t q : ℤ) (p size : ℕ) → p ≤ 10000 → q ≡ pos p → size ≤ 1400000000000 → Near 4 size (compression_exponent f t) → Elastic (elastic_rising size p) (elastic f t q)
+unfolding elastic_rising rising
 elastic_rises f t q p size i j h n =
     let m = sums_most size (terms size 9).even (terms size 9).odd h (sized size (omega arith)) in
     let w = rising_whole ((terms size 9).even + (terms size 9).odd) p m i in
@@ -151,8 +151,8 @@ falling_whole size even odd p h i s =
     let b : odd * p ≤ (even + 50000000000) * p = mul-le-mul_right p (omega arith) in
     (omega arith, omega arith, omega arith, omega arith)
 
-pub elastic_falls : (f : Figures) (t q : ℤ) (p size : ℕ) → p ≤ 10000 → q ≡ pos p → size ≤ 1050000000000 → Near 4 size (neg (compression_exponent f t)) → Elastic (elastic_falling_lem size p) (elastic f t q)
-unfolding elastic_falling_lem
+pub elastic_falls : (f : Figures) (t q : ℤ) (p size : ℕ) → p ≤ 10000 → q ≡ pos p → size ≤ 1050000000000 → Near 4 size (neg (compression_exponent f t)) → Elastic (elastic_falling size p) (elastic f t q)
+unfolding elastic_falling
 elastic_falls f t q p size i j h n =
     let w = falling_whole size (terms size 9).even (terms size 9).odd p h i (sized size (omega arith)) in
     let r = range_n (1000000000000000000 + (terms size 9).odd * p - (terms size 9).even * p) w.2 w.3 in
@@ -220,11 +220,11 @@ module _ (l : Exponential) (t : ℤ) (n : ℕ) (warm : n ≤ 6000) (at : t +ℤ 
       let m = below_most (over_density_lem l n) W U b n (square_most l.density.hundredths l.density.ranged.1) refl is o.1 in
       (omega arith, record { top = Z; bottom = 10000000000 * b; worth = below_worth n b U W Z is top (exponent_at l t n at); least = s.0; most = s.1 })
 
-pub above_units : (l : Exponential) (n p : ℕ) → beside_density_lem n ≤ over_density_lem l n → elastic_units l n p ≡ elastic_rising_lem (over_density_lem l n - beside_density_lem n) p
+pub above_units : (l : Exponential) (n p : ℕ) → beside_density_lem n ≤ over_density_lem l n → elastic_units l n p ≡ elastic_rising (over_density_lem l n - beside_density_lem n) p
 unfolding elastic_units
 above_units l n p h = let s : nat_le (beside_density_lem n) (over_density_lem l n) ≡ true = grind (arith, nat_tests) in rw s refl
 
-pub below_units : (l : Exponential) (n p : ℕ) → over_density_lem l n < beside_density_lem n → elastic_units l n p ≡ elastic_falling_lem (beside_density_lem n - over_density_lem l n) p
+pub below_units : (l : Exponential) (n p : ℕ) → over_density_lem l n < beside_density_lem n → elastic_units l n p ≡ elastic_falling (beside_density_lem n - over_density_lem l n) p
 unfolding elastic_units
 below_units l n p h = let s : nat_le (beside_density_lem n) (over_density_lem l n) ≡ false = grind (arith, nat_tests) in rw s refl
 
@@ -246,10 +246,33 @@ elastic_range l n p h k =
     let t = elastic_is l (pos n -ℤ pos 1000) (pos p) n p h k (omega (arith, ints)) refl in
     (t.least, t.most)
 
--- the products of the sums with a pressure
-pub products_most : (size even odd p : ℕ) → size ≤ 1050000000000 → p ≤ 10000 → even ≡ (terms size 9).even → odd ≡ (terms size 9).odd → (even * p ≤ 43600000000000000) × (odd * p ≤ 43600000000000000)
-products_most size even odd p h i a b =
-    let m = sums_most size (terms size 9).even (terms size 9).odd (omega arith) (sized size (omega arith)) in
-    let e : even * p ≤ 4360000000000 * 10000 = mul-le-mul (let k : even ≤ 4360000000000 = omega arith in k) i in
-    let o : odd * p ≤ 4360000000000 * 10000 = mul-le-mul (let k : odd ≤ 4360000000000 = omega arith in k) i in
-    (omega arith, omega arith)
+-- 1,000·g
+pub above_exponential : (l : Exponential) (n : ℕ) → beside_density_lem n ≤ over_density_lem l n → compressibility_units l n ≡ rising (over_density_lem l n - beside_density_lem n)
+unfolding compressibility_units
+above_exponential l n h = let s : nat_le (beside_density_lem n) (over_density_lem l n) ≡ true = grind (arith, nat_tests) in rw s refl
+
+pub below_exponential : (l : Exponential) (n : ℕ) → over_density_lem l n < beside_density_lem n → compressibility_units l n ≡ falling (beside_density_lem n - over_density_lem l n)
+unfolding compressibility_units
+below_exponential l n h = let s : nat_le (beside_density_lem n) (over_density_lem l n) ≡ false = grind (arith, nat_tests) in rw s refl
+
+-- 1 − gP from it
+rising_is : (size p : ℕ) → elastic_rising size p ≡ (1000000000000000000 - rising size * p) / 1000000
+unfolding elastic_rising
+rising_is size p = refl
+
+falling_is : (size p : ℕ) → size ≤ 1050000000000 → elastic_falling size p ≡ (1000000000000000000 - falling size * p) / 1000000
+unfolding elastic_falling falling
+falling_is size p h = go (terms size 9).even (terms size 9).odd (odd_less size h)
+  where
+    go : (even odd : ℕ) → odd ≤ even → (1000000000000000000 + odd * p - even * p) / 1000000 ≡ (1000000000000000000 - (even - odd) * p) / 1000000
+    go even odd l =
+        let e : (even - odd) + odd ≡ even = omega arith in
+        let f : ((even - odd) + odd) * p ≡ even * p = rw e refl in
+        let g : 1000000000000000000 + odd * p - even * p ≡ 1000000000000000000 - (even - odd) * p = omega arith in
+        rw g refl
+
+pub elastic_units_is : (l : Exponential) (n p : ℕ) → n ≤ 6000 → elastic_units l n p ≡ (1000000000000000000 - compressibility_units l n * p) / 1000000
+elastic_units_is l n p k = elim (cases_lt (over_density_lem l n) (beside_density_lem n)) [
+  | inl h ↦ rw (below_exponential l n h) (below_units l n p h ∙ falling_is (beside_density_lem n - over_density_lem l n) p (below_small l n k h))
+  | inr h ↦ rw (above_exponential l n h) (above_units l n p h ∙ rising_is (over_density_lem l n - beside_density_lem n) p)
+]

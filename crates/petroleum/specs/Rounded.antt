@@ -41,17 +41,22 @@ over_density_lem l n = (1000000000000 * (8288680000 + 420920 * n)) / (l.density.
 unfoldable pub beside_density_lem : ℕ → ℕ
 beside_density_lem n = 100 * (16229592000 - 21592 * n)
 
--- 1 − gP, with 10⁶·gP the exponential of their difference, times p
-unfoldable pub elastic_rising_lem : ℕ → ℕ → ℕ
-elastic_rising_lem size p = (1000000000000000000 - rising size * p) / 1000000
+-- 1,000·g, the exponential of their difference
+unfoldable pub compressibility_units : Exponential → ℕ → ℕ
+compressibility_units l n =
+    cond (nat_le (beside_density_lem n) (over_density_lem l n)) (rising (over_density_lem l n - beside_density_lem n)) (falling (beside_density_lem n - over_density_lem l n))
 
-unfoldable pub elastic_falling_lem : ℕ → ℕ → ℕ
-elastic_falling_lem size p = (1000000000000000000 + (terms size 9).odd * p - (terms size 9).even * p) / 1000000
+-- 1 − gP, with 10⁶·gP the exponential of their difference, times p
+unfoldable pub elastic_rising : ℕ → ℕ → ℕ
+elastic_rising size p = (1000000000000000000 - rising size * p) / 1000000
+
+unfoldable pub elastic_falling : ℕ → ℕ → ℕ
+elastic_falling size p = (1000000000000000000 + (terms size 9).odd * p - (terms size 9).even * p) / 1000000
 
 unfoldable pub elastic_units : Exponential → ℕ → ℕ → ℕ
 elastic_units l n p =
-    cond (nat_le (beside_density_lem n) (over_density_lem l n)) (elastic_rising_lem (over_density_lem l n - beside_density_lem n) p)
-    (elastic_falling_lem (beside_density_lem n - over_density_lem l n) p)
+    cond (nat_le (beside_density_lem n) (over_density_lem l n)) (elastic_rising (over_density_lem l n - beside_density_lem n) p)
+    (elastic_falling (beside_density_lem n - over_density_lem l n) p)
 
 -- the carry factor in steps, rounded down
 unfoldable pub carried : Exponential → ℕ → ℕ → ℕ → ℕ → ℕ

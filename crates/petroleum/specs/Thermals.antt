@@ -249,5 +249,8 @@ pub bent_less : (y : ℕ) → y ≤ 70000000000 → bent y ≤ y
 unfolding bent
 bent_less y h = let g = floor_under (4 * y * y) 5000000000000 (lit< tt) in cold_less y (bent y) h g.0
 
-pub thermal_range : (l : Exponential) (n : ℕ) → n ≤ 6000 → (926000000000 ≤ thermal_units l n) × (thermal_units l n ≤ 1053000000000)
-thermal_range l n h = let t = thermal_is l (pos n -ℤ pos 1000) n h (omega (arith, ints)) in (t.least, t.most)
+pub warm_range : (l : Exponential) (n : ℕ) → 2500 ≤ n → n ≤ 6000 → (926000000000 ≤ falling (straight l n + bent (straight l n))) × (falling (straight l n + bent (straight l n)) ≤ 1053000000000)
+warm_range l n h k = let t = thermal_warm l (pos n -ℤ pos 1000) n h k (omega (arith, ints)) in (t.least, t.most)
+
+pub cold_range : (l : Exponential) (n : ℕ) → n < 2500 → (926000000000 ≤ rising (straight l n - bent (straight l n))) × (rising (straight l n - bent (straight l n)) ≤ 1053000000000)
+cold_range l n h = let t = thermal_cold l (pos n -ℤ pos 1000) n h (omega (arith, ints)) in (t.least, t.most)

@@ -2,7 +2,7 @@
 ghost use Rattle.std.specs.Prelude.{◌≡◌, ◌+◌, ◌*◌, ◌≤◌, true, false, MatchOption};
 
 use crate::coefficients::{Coefficients, downward, square};
-use crate::units::{bent, beside_density, elastic_falling, elastic_rising, falling, rising};
+use crate::units::{bent, beside_density, falling, rising};
 use exact::pair::Pair;
 use liquid::conditions::Conditions;
 use liquid::meaning::Liquid;
@@ -22,7 +22,7 @@ pub struct Exponential {
 
 impl Exponential {
     ghost use Rattle.petroleum.specs.Exponential.{figures_of, expansive, ExponentialOpened};
-    ghost use Rattle.petroleum.specs.Rounded.{slope as slope_of, straight as straight_of, thermal_units, over_density_lem, elastic_units, carried as carried_of};
+    ghost use Rattle.petroleum.specs.Rounded.{slope as slope_of, straight as straight_of, thermal_units, over_density_lem, compressibility_units, elastic_units, carried as carried_of};
 
     /// The liquid of a density and coefficients, if b lies in 0.0001 to 0.002, judged exactly: b is compared times 10⁸r².
     #[tactic(auto, using(crate::specs::Openings::expansive_is, std::proofs::lemmas::Bool::Decides::nat_tests))]
@@ -57,6 +57,7 @@ impl Exponential {
     }
 
     /// b times 10⁸r².
+    #[tactic(auto, using(crate::specs::Thermals::slope_most, crate::specs::Openings::square_most), unfolding(crate::specs::Rounded::slope))]
     fn slope(&self) -> u128
         ensures value { result ≡ slope_of self.now }
         ensures most { result ≤ 2880000000000000 }
@@ -65,6 +66,7 @@ impl Exponential {
     }
 
     /// The size of bΔ.
+    #[tactic(auto, using(crate::specs::Thermals::straight_small), unfolding(crate::specs::Rounded::straight))]
     fn straight(&self, temperature: Temperature) -> u128
         ensures value { result ≡ straight_of self.now temperature.raised }
         ensures most { result ≤ 70000000000 }
@@ -74,6 +76,7 @@ impl Exponential {
     }
 
     /// e(−bΔ(1 + 0.8bΔ)).
+    #[tactic(auto, using(crate::specs::Thermals::warm_units, crate::specs::Thermals::cold_units, crate::specs::Thermals::warm_range, crate::specs::Thermals::cold_range))]
     fn thermal(&self, temperature: Temperature) -> u128
         ensures value { result ≡ thermal_units self.now temperature.raised }
         ensures range { (926000000000 ≤ result) × (result ≤ 1053000000000) }
@@ -95,21 +98,33 @@ impl Exponential {
         1_000_000_000_000 * over_square / square(self.density)
     }
 
-    /// 1 − gP.
-    fn elastic(&self, temperature: Temperature, pressure: Pressure) -> u128
-        ensures value { result ≡ elastic_units self.now temperature.raised pressure.kilopascals }
-        ensures range { (956000000000 ≤ result) × (result ≤ 1001000000000) }
+    /// 1,000·g.
+    #[tactic(auto, using(crate::specs::Elastics::above_exponential, crate::specs::Elastics::below_exponential, crate::specs::Elastics::above_small, crate::specs::Elastics::below_small))]
+    fn compressibility(&self, temperature: Temperature) -> u128
+        ensures value { result ≡ compressibility_units self.now temperature.raised }
+        ensures most { result ≤ 4360000000000 }
     {
         let over = self.over_density(temperature);
         let beside = beside_density(temperature);
         if beside <= over {
-            elastic_rising(over - beside, pressure)
+            rising(over - beside)
         } else {
-            elastic_falling(beside - over, pressure)
+            falling(beside - over)
         }
     }
 
+    /// 1 − gP, rounded down.
+    #[tactic(auto, using(crate::specs::Elastics::elastic_units_is, crate::specs::Elastics::elastic_range))]
+    fn elastic(&self, temperature: Temperature, pressure: Pressure) -> u128
+        ensures value { result ≡ elastic_units self.now temperature.raised pressure.kilopascals }
+        ensures range { (956000000000 ≤ result) × (result ≤ 1001000000000) }
+    {
+        let taken = self.compressibility(temperature) * pressure.kilopascals as u128;
+        (1_000_000_000_000_000_000 - taken) / 1_000_000
+    }
+
     /// The carry factor in steps, rounded down.
+    #[tactic(auto, using(crate::specs::Exponentials::product_most, crate::specs::Exponentials::factor_positive, crate::specs::Exponentials::steps_range, crate::specs::Exponentials::parts_at), unfolding(crate::specs::Rounded::carried))]
     fn carried(&self, at: &Conditions) -> u64
         ensures value { result ≡ carried_of self.now at.now.densitometer_temperature.raised at.now.densitometer_pressure.kilopascals at.now.wall_temperature.raised at.now.vessel_pressure.kilopascals }
         ensures range { (83900000 ≤ result) × (result ≤ 119100000) }

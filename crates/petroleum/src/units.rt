@@ -1,11 +1,12 @@
 // The parts of the exponential liquid's carry factor that none of its figures enters, in whole units of 10⁻¹².
 ghost use Rattle.std.specs.Prelude.{◌≡◌, ◌≤◌};
-ghost use Rattle.petroleum.specs.Rounded.{rising as rising_of, falling as falling_of, bent as bent_of, beside_density_lem, elastic_rising_lem, elastic_falling_lem};
+ghost use Rattle.petroleum.specs.Rounded.{rising as rising_of, falling as falling_of, bent as bent_of, beside_density_lem};
 
 use expsum::sum;
-use pass::ranges::{Pressure, Temperature};
+use pass::ranges::Temperature;
 
 /// e(a) for an argument of this size.
+#[tactic(auto, using(expsum::proofs::Bounds::sized, crate::specs::Elastics::sums_most), unfolding(crate::specs::Rounded::rising))]
 pub(crate) fn rising(size: u128) -> u128
     requires small { size ≤ 1400000000000 }
     ensures value { result ≡ rising_of size }
@@ -16,39 +17,24 @@ pub(crate) fn rising(size: u128) -> u128
 }
 
 /// e(−a) for an argument of this size.
+#[tactic(auto, using(expsum::proofs::Bounds::odd_less, crate::specs::Elastics::sums_most, expsum::proofs::Bounds::sized), unfolding(crate::specs::Rounded::falling))]
 pub(crate) fn falling(size: u128) -> u128
-    requires small { size ≤ 1000000000000 }
+    requires small { size ≤ 1050000000000 }
     ensures value { result ≡ falling_of size }
+    ensures most { result ≤ 4360000000000 }
 {
     let parts = sum(size);
     parts.even - parts.odd
 }
 
 /// 0.8·y², rounded down.
+#[tactic(auto, using(crate::specs::Thermals::bent_less), unfolding(crate::specs::Rounded::bent))]
 pub(crate) fn bent(y: u128) -> u128
     requires small { y ≤ 70000000000 }
     ensures value { result ≡ bent_of y }
     ensures less { result ≤ y }
 {
     4 * y * y / 5_000_000_000_000
-}
-
-/// 1 − gP where the exponent of g is not negative, rounded down.
-pub(crate) fn elastic_rising(size: u128, pressure: Pressure) -> u128
-    requires small { size ≤ 1400000000000 }
-    ensures value { result ≡ elastic_rising_lem size pressure.kilopascals }
-{
-    (1_000_000_000_000_000_000 - rising(size) * pressure.kilopascals as u128) / 1_000_000
-}
-
-/// 1 − gP where the exponent of g is negative, rounded down.
-pub(crate) fn elastic_falling(size: u128, pressure: Pressure) -> u128
-    requires small { size ≤ 1050000000000 }
-    ensures value { result ≡ elastic_falling_lem size pressure.kilopascals }
-{
-    let parts = sum(size);
-    let pressure = pressure.kilopascals as u128;
-    (1_000_000_000_000_000_000 + parts.odd * pressure - parts.even * pressure) / 1_000_000
 }
 
 /// The part of the exponent of g that is not over r².

@@ -33,17 +33,19 @@ exponent_worth f t n b o w i =
     worth_of (worth_add (worth_add (worth_add (worth_neg (parts_worth 100000 162080 (lit< tt))) (worth_mul (parts_worth 100000000 21592 (lit< tt)) (degrees_worth t n i))) (worth_div o (worth_nat 870960) w))
     (worth_div o (worth_mul (parts_worth 10 42092 (lit< tt)) (degrees_worth t n i)) w)) (omega arith) (exponent_n n b)
 
--- the exponent against its size: u is U/b in units, and w is W/10¹⁰ in units
+-- a difference of two numbers, P/D and Q/D, near that of their units, p and q, of which p is the larger
+difference_near : {x : Fraction} (p q P Q D : ℕ) → Worth x P Q D → q ≤ p → 1000000000000 * Q ≤ p * D → p * D ≤ 1000000000000 * P → 1000000000000 * P ≤ p * D + D
+    → q * D ≤ 1000000000000 * Q → 1000000000000 * Q ≤ q * D + D → Near 4 (p - q) x
+difference_near {x} p q P Q D w l o a b c d =
+    let t : (p - q + q) * D ≡ p * D = (let e : p - q + q ≡ p = omega arith in rw e refl) in
+    let r : Q ≤ P = omega arith in
+    record { top = P - Q; bottom = D; worth = worth_of w w.positive (go (P - Q) Q P D (omega arith)); least = omega arith; most = omega arith }
+  where
+    go : (Z Q P D : ℕ) → Z + Q ≡ P → P * D + 0 * D ≡ Z * D + Q * D
+    go Z Q P D h = rw (← h) (omega arith)
+
+-- how large the exponent is: u is U/b in units, and W/10¹⁰ is 100·W units
 -- where it is not negative
-above_n : (u W U b : ℕ) → 100 * W ≤ u → u * b ≤ 1000000000000 * U → W * b ≤ 10000000000 * U
-above_n u W U b h k = let a : 100 * W * b ≤ u * b = mul-le-mul_right b h in omega arith
-
-above_near : (u W U b z Z : ℕ) → z + 100 * W ≡ u → Z + W * b ≡ 10000000000 * U → u * b ≤ 1000000000000 * U → 1000000000000 * U ≤ u * b + b
-    → (z * (10000000000 * b) ≤ 1000000000000 * Z + 4 * (10000000000 * b)) × (1000000000000 * Z ≤ z * (10000000000 * b) + 4 * (10000000000 * b))
-above_near u W U b z Z h i j k =
-    let a : (z + 100 * W) * b ≡ u * b = rw h refl in
-    (omega arith, omega arith)
-
 above_most : (u W U b n : ℕ) → 3600000000 ≤ b → n ≤ 6000 → U ≡ 8288680000 + 420920 * n → W + 21592 * n ≡ 16229592000 → u * b ≤ 1000000000000 * U → u ≤ 1400000000000 + 100 * W
 above_most u W U b n o m h i k =
     let a : (1400000000000 + 100 * W) * 3600000000 ≤ (1400000000000 + 100 * W) * b = mul-le-mul_left (1400000000000 + 100 * W) o in
@@ -51,18 +53,6 @@ above_most u W U b n o m h i k =
     le_of_mul-le-mul_right c (omega arith)
 
 -- where it is negative
-below_n : (u W U b : ℕ) → u < 100 * W → 1000000000000 * U ≤ u * b + b → 10000000000 * U ≤ W * b
-below_n u W U b h k =
-    let g : u + 1 ≤ 100 * W = omega arith in
-    let a : (u + 1) * b ≤ 100 * W * b = mul-le-mul_right b g in
-    omega arith
-
-below_near : (u W U b z Z : ℕ) → z + u ≡ 100 * W → Z + 10000000000 * U ≡ W * b → u * b ≤ 1000000000000 * U → 1000000000000 * U ≤ u * b + b
-    → (z * (10000000000 * b) ≤ 1000000000000 * Z + 4 * (10000000000 * b)) × (1000000000000 * Z ≤ z * (10000000000 * b) + 4 * (10000000000 * b))
-below_near u W U b z Z h i j k =
-    let a : (z + u) * b ≡ 100 * W * b = rw h refl in
-    (omega arith, omega arith)
-
 below_most : (u W U b n : ℕ) → b ≤ 14400000000 → U ≡ 8288680000 + 420920 * n → W + 21592 * n ≡ 16229592000 → 1000000000000 * U ≤ u * b + b → 100 * W ≤ u + 1050000000000
 below_most u W U b n o h i k =
     let a : (u + 1) * b ≤ (u + 1) * 14400000000 = mul-le-mul_left (u + 1) o in
@@ -170,55 +160,47 @@ beside_is : (n : ℕ) → beside_density_lem n ≡ 100 * (16229592000 - 21592 * 
 unfolding beside_density_lem
 beside_is n = refl
 
-exponent_at : (l : Exponential) (t : ℤ) (n : ℕ) → t +ℤ pos 1000 ≡ pos n → Worth (compression_exponent (figures l) t) (10000000000 * (8288680000 + 420920 * n) + 21592 * n * (l.density.hundredths * l.density.hundredths)) (16229592000 * (l.density.hundredths * l.density.hundredths)) (10000000000 * (l.density.hundredths * l.density.hundredths))
-exponent_at l t n i =
+-- the exponent is U/b − W/10¹⁰, its parts over one bottom
+exponent_at : (l : Exponential) (t : ℤ) (n W : ℕ) → t +ℤ pos 1000 ≡ pos n → W + 21592 * n ≡ 16229592000 → Worth (compression_exponent (figures l) t) (10000000000 * (8288680000 + 420920 * n)) (W * (l.density.hundredths * l.density.hundredths)) (10000000000 * (l.density.hundredths * l.density.hundredths))
+exponent_at l t n W i h =
     let d : 0 < l.density.hundredths = omega (arith, l.density.ranged.0) in
-    exponent_worth (figures l) t n (l.density.hundredths * l.density.hundredths) (mul-pos d d) (squared_worth (figures l) l.density.hundredths refl) i
-
--- not negative
-above_worth : {x : Fraction} (n b U W Z : ℕ) → W + 21592 * n ≡ 16229592000 → Z + W * b ≡ 10000000000 * U → Worth x (10000000000 * U + 21592 * n * b) (16229592000 * b) (10000000000 * b) → Worth x Z 0 (10000000000 * b)
-above_worth n b U W Z h i w = worth_of w w.positive (go b (W * b) (10000000000 * U) (21592 * n * b) (16229592000 * b) Z (10000000000 * b) i (let k : (W + 21592 * n) * b ≡ 16229592000 * b = rw h refl in omega arith))
+    let w = exponent_worth (figures l) t n (l.density.hundredths * l.density.hundredths) (mul-pos d d) (squared_worth (figures l) l.density.hundredths refl) i in
+    worth_of w w.positive (go (l.density.hundredths * l.density.hundredths) (10000000000 * (8288680000 + 420920 * n)) (10000000000 * (l.density.hundredths * l.density.hundredths)))
   where
-    go : (b Wb U nb m Z d : ℕ) → Z + Wb ≡ U → Wb + nb ≡ m → (U + nb) * d + 0 * d ≡ Z * d + m * d
-    go b Wb U nb m Z d h k = rw (← h, ← k) (omega arith)
+    go : (b U d : ℕ) → (U + 21592 * n * b) * d + W * b * d ≡ U * d + 16229592000 * b * d
+    go b U d = let k : (W + 21592 * n) * b ≡ 16229592000 * b = rw h refl in let m : (W * b + 21592 * n * b) * d ≡ 16229592000 * b * d = rw (← k) (omega arith) in omega arith
 
--- negative
-below_worth : {x : Fraction} (n b U W Z : ℕ) → W + 21592 * n ≡ 16229592000 → Z + 10000000000 * U ≡ W * b → Worth x (10000000000 * U + 21592 * n * b) (16229592000 * b) (10000000000 * b) → Worth (neg x) Z 0 (10000000000 * b)
-below_worth n b U W Z h i w = worth_of (worth_neg w) w.positive (go (W * b) (10000000000 * U) (21592 * n * b) (16229592000 * b) Z (10000000000 * b) i (let k : (W + 21592 * n) * b ≡ 16229592000 * b = rw h refl in omega arith))
-  where
-    go : (Wb U nb m Z d : ℕ) → Z + U ≡ Wb → Wb + nb ≡ m → m * d + 0 * d ≡ Z * d + (U + nb) * d
-    go Wb U nb m Z d h k = rw (← k, ← h) (omega arith)
+-- and their units
+parts_near : (u W U b : ℕ) → u * b ≤ 1000000000000 * U → 1000000000000 * U ≤ u * b + b
+    → (u * (10000000000 * b) ≤ 1000000000000 * (10000000000 * U)) × (1000000000000 * (10000000000 * U) ≤ u * (10000000000 * b) + 10000000000 * b) × (100 * W * (10000000000 * b) ≡ 1000000000000 * (W * b))
+parts_near u W U b h i = (omega arith, omega arith, omega arith)
 
 module _ (l : Exponential) (t : ℤ) (n : ℕ) (warm : n ≤ 6000) (at : t +ℤ pos 1000 ≡ pos n) where
   above_exponent : beside_density_lem n ≤ over_density_lem l n → (over_density_lem l n - beside_density_lem n ≤ 1400000000000) × Near 4 (over_density_lem l n - beside_density_lem n) (compression_exponent (figures l) t)
   above_exponent h =
-      let o = over_under l n in
-      let k = beside_is n in
       let W = 16229592000 - 21592 * n in
       let U = 8288680000 + 420920 * n in
-      let b = l.density.hundredths * l.density.hundredths in
+      let b = (l.density.hundredths * l.density.hundredths) in
+      let o = over_under l n in
+      let k = beside_is n in
       let is : W + 21592 * n ≡ 16229592000 = omega arith in
-      let room = above_n (over_density_lem l n) W U b (omega arith) o.0 in
-      let Z = 10000000000 * U - W * b in
-      let top : Z + W * b ≡ 10000000000 * U = omega arith in
-      let s = above_near (over_density_lem l n) W U b (over_density_lem l n - beside_density_lem n) Z (omega arith) top o.0 o.1 in
+      let s = parts_near (over_density_lem l n) W U b o.0 o.1 in
       let m = above_most (over_density_lem l n) W U b n (square_least l.density.hundredths l.density.ranged.0) warm refl is o.0 in
-      (omega arith, record { top = Z; bottom = 10000000000 * b; worth = above_worth n b U W Z is top (exponent_at l t n at); least = s.0; most = s.1 })
+      let g : 100 * W ≤ over_density_lem l n = omega arith in
+      (omega arith, rw k (difference_near (over_density_lem l n) (100 * W) (10000000000 * U) (W * b) (10000000000 * b) (exponent_at l t n W at is) g (omega (arith, s.2, mul-le-mul_right (10000000000 * b) g)) s.0 s.1 (omega (arith, s.2)) (omega (arith, s.2))))
 
   below_exponent : over_density_lem l n < beside_density_lem n → (beside_density_lem n - over_density_lem l n ≤ 1050000000000) × Near 4 (beside_density_lem n - over_density_lem l n) (neg (compression_exponent (figures l) t))
   below_exponent h =
-      let o = over_under l n in
-      let k = beside_is n in
       let W = 16229592000 - 21592 * n in
       let U = 8288680000 + 420920 * n in
-      let b = l.density.hundredths * l.density.hundredths in
+      let b = (l.density.hundredths * l.density.hundredths) in
+      let o = over_under l n in
+      let k = beside_is n in
       let is : W + 21592 * n ≡ 16229592000 = omega arith in
-      let room = below_n (over_density_lem l n) W U b (omega arith) o.1 in
-      let Z = W * b - 10000000000 * U in
-      let top : Z + 10000000000 * U ≡ W * b = omega arith in
-      let s = below_near (over_density_lem l n) W U b (beside_density_lem n - over_density_lem l n) Z (omega arith) top o.0 o.1 in
+      let s = parts_near (over_density_lem l n) W U b o.0 o.1 in
       let m = below_most (over_density_lem l n) W U b n (square_most l.density.hundredths l.density.ranged.1) refl is o.1 in
-      (omega arith, record { top = Z; bottom = 10000000000 * b; worth = below_worth n b U W Z is top (exponent_at l t n at); least = s.0; most = s.1 })
+      let g : over_density_lem l n + 1 ≤ 100 * W = omega arith in
+      (omega arith, rw k (difference_near (100 * W) (over_density_lem l n) (W * b) (10000000000 * U) (10000000000 * b) (worth_neg (exponent_at l t n W at is)) (omega arith) (omega (arith, s.1, s.2, mul-le-mul_right (10000000000 * b) g)) (omega (arith, s.2)) (omega (arith, s.2)) s.0 s.1))
 
 pub above_units : (l : Exponential) (n p : ℕ) → beside_density_lem n ≤ over_density_lem l n → elastic_units l n p ≡ elastic_rising (over_density_lem l n - beside_density_lem n) p
 unfolding elastic_units

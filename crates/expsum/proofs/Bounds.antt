@@ -88,15 +88,15 @@ sized size small =
     go : (h even odd last : ℕ) → h * (2 * 1000000000000) ≤ size * size → 1000000000000 + h ≤ even → size ≤ odd → even + odd + last ≤ 1000000000000 + size + 2 * h → Sized size even odd
     go h even odd last l e o m = record { least = omega arith; odd_least = o; most = omega arith }
 
--- e(−a) is not below 0 for an argument of at most 1.05
-pub odd_less : (size : ℕ) → size ≤ 1050000000000 → (terms size 9).odd ≤ (terms size 9).even
+-- e(−a) is well above 0 for an argument of at most 1.05
+pub odd_less : (size : ℕ) → size ≤ 1050000000000 → (terms size 9).odd + 400 ≤ (terms size 9).even
 odd_less size small =
     let b = bounded size 9 (omega arith) in
     let h = (next_under size 2 size (omega arith)).1 in
     go (next_term_lem size 2 size) (terms size 9).even (terms size 9).odd (terms size 9).last h b.even_least b.odd_most
   where
-    go : (h even odd last : ℕ) → size * size ≤ h * (2 * 1000000000000) + 2 * 1000000000000 → 1000000000000 + h ≤ even → 3 * odd + 2 * last ≤ 3 * size + 2 * h → odd ≤ even
-    go h even odd last l e o = elim (cases_lt size 1000000000000) [
+    go : (h even odd last : ℕ) → size * size ≤ h * (2 * 1000000000000) + 2 * 1000000000000 → 1000000000000 + h ≤ even → 3 * odd + 2 * last ≤ 3 * size + 2 * h → odd + 400 ≤ even
+    go h even odd last l e o = elim (cases_lt size 900000000000) [
       | inl k ↦ omega arith
       | inr k ↦ omega (arith, small, mul-le-mul_left size k)
     ]

@@ -94,15 +94,14 @@ impl Exponential {
     fn over_density(&self, temperature: Temperature) -> u128
         ensures value { result ≡ over_density_lem self.now temperature.raised }
     {
-        let over_square = 8_288_680_000 + 420_920 * temperature.raised as u128;
-        1_000_000_000_000 * over_square / square(self.density)
+        let top = 8_288_680_000 + 420_920 * temperature.raised as u128;
+        1_000_000_000_000 * top / square(self.density)
     }
 
     /// 1,000·g.
     #[tactic(auto, using(crate::specs::Elastics::above_exponential, crate::specs::Elastics::below_exponential, crate::specs::Elastics::above_small, crate::specs::Elastics::below_small))]
     fn compressibility(&self, temperature: Temperature) -> u128
         ensures value { result ≡ compressibility_units self.now temperature.raised }
-        ensures most { result ≤ 4360000000000 }
     {
         let over = self.over_density(temperature);
         let beside = beside_density(temperature);
@@ -114,7 +113,7 @@ impl Exponential {
     }
 
     /// 1 − gP, rounded down.
-    #[tactic(auto, using(crate::specs::Elastics::elastic_units_is, crate::specs::Elastics::elastic_range))]
+    #[tactic(auto, using(crate::specs::Elastics::elastic_units_is, crate::specs::Elastics::elastic_range, crate::specs::Elastics::taken_most))]
     fn elastic(&self, temperature: Temperature, pressure: Pressure) -> u128
         ensures value { result ≡ elastic_units self.now temperature.raised pressure.kilopascals }
         ensures range { (956000000000 ≤ result) × (result ≤ 1001000000000) }

@@ -10,18 +10,16 @@ use pass::ranges::Temperature;
 pub(crate) fn rising(size: u128) -> u128
     requires small { size ≤ 1400000000000 }
     ensures value { result ≡ rising_of size }
-    ensures most { result ≤ 4360000000000 }
 {
     let parts = sum(size);
     parts.even + parts.odd
 }
 
 /// e(−a) for an argument of this size.
-#[tactic(auto, using(expsum::proofs::Bounds::odd_less, crate::specs::Elastics::sums_most, expsum::proofs::Bounds::sized), unfolding(crate::specs::Rounded::falling))]
+#[tactic(auto, using(expsum::proofs::Bounds::odd_less), unfolding(crate::specs::Rounded::falling))]
 pub(crate) fn falling(size: u128) -> u128
     requires small { size ≤ 1050000000000 }
     ensures value { result ≡ falling_of size }
-    ensures most { result ≤ 4360000000000 }
 {
     let parts = sum(size);
     parts.even - parts.odd

@@ -37,7 +37,7 @@ pub(crate) fn square(density: Density) -> u128
 
 impl Coefficients {
     /// K0/r² + K1/r, times 10⁸r².
-    #[tactic(auto, using(crate::specs::Openings::above_most))]
+    #[tactic(auto, using(crate::proofs::Expansions::above_most))]
     pub(crate) fn above(self, density: Density) -> u128
         ensures value { result ≡ 100000000 * self.k0 + 1000000 * self.k1 * density.hundredths }
         ensures most { result ≤ 4200000000000000 }
@@ -46,7 +46,7 @@ impl Coefficients {
     }
 
     /// −K2, times 10⁸r².
-    #[tactic(auto, using(crate::specs::Openings::below_most))]
+    #[tactic(auto, using(crate::proofs::Expansions::below_most))]
     pub(crate) fn below(self, density: Density) -> u128
         ensures value { result ≡ self.minus_k2 * (density.hundredths * density.hundredths) }
         ensures most { result ≤ 4896000000000000 }

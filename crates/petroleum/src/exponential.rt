@@ -25,7 +25,7 @@ impl Exponential {
     ghost use Rattle.petroleum.specs.Rounded.{slope as slope_of, straight as straight_of, thermal_units, over_density_lem, compressibility_units, elastic_units, carried as carried_of};
 
     /// The liquid of a density and coefficients, if b lies in 0.0001 to 0.002, judged exactly: b is compared times 10⁸r².
-    #[tactic(auto, using(crate::specs::Openings::expansive_is, std::proofs::lemmas::Bool::Decides::nat_tests))]
+    #[tactic(auto, using(crate::proofs::Expansions::expansive_is, std::proofs::lemmas::Bool::Decides::nat_tests))]
     fn new(density: Density, coefficients: Coefficients) -> Option<Exponential>
         ensures { MatchOption result (expansive (figures_of density coefficients) ≡ false) (λ l. (expansive (figures_of density coefficients) ≡ true) × (l.density ≡ density) × (l.coefficients ≡ coefficients)) }
     {

@@ -1,5 +1,6 @@
 -- How large the terms are: each is at most half of the one before from the third on, so that the sum is bounded by its first terms.
-use Rattle.std.proofs.Common.{◌≡◌, ℕ, zero, suc, ◌+◌, ◌*◌, ◌<◌, ◌≤◌, mul-le-mul, mul-le-mul_left, arith}
+use Rattle.std.proofs.Common.{◌≡◌, ℕ, zero, suc, ◌+◌, ◌*◌, ◌<◌, ◌≤◌, mul-le-mul, mul-le-mul_left, inl, inr, arith}
+use Rattle.std.proofs.lemmas.Bool.{cases_lt}
 use Rattle.exact.proofs.Quotients.{floor_under}
 use Rattle.expsum.specs.Terms.{next_term_lem, Terms, more_terms, terms}
 
@@ -32,6 +33,7 @@ next_small size k t s l o = small_n size k t (next_term_lem size k t) s l o (nex
 pub record Bounded (size h : ℕ) (s : Terms) : Type 0 where
   pub even_least : 1000000000000 + h ≤ s.even
   pub odd_least : size ≤ s.odd
+  pub odd_most : 3 * s.odd + 2 * s.last ≤ 3 * size + 2 * h
   pub last_most : s.last ≤ h
   pub all_most : s.even + s.odd + s.last ≤ 1000000000000 + size + 2 * h
 
@@ -45,6 +47,7 @@ bounded_more size h j s small b =
     go u v m n = record {
       even_least = omega (arith, b.even_least);
       odd_least = omega (arith, b.odd_least);
+      odd_most = omega (arith, b.odd_most);
       last_most = omega (arith, b.last_most);
       all_most = omega (arith, b.all_most);
     }
@@ -54,7 +57,7 @@ unfolding terms
 bounded size zero small = go (next_term_lem size 2 size)
   where
     go : (h : ℕ) → Bounded size h (record { even = 1000000000000 + h; odd = size; last = h })
-    go h = record { even_least = omega arith; odd_least = omega arith; last_most = omega arith; all_most = omega arith }
+    go h = record { even_least = omega arith; odd_least = omega arith; odd_most = omega arith; last_most = omega arith; all_most = omega arith }
 bounded size (suc j) small = bounded_more size (next_term_lem size 2 size) j (terms size j) small (bounded size j small)
 
 -- how large the sums and the last term are
@@ -84,3 +87,16 @@ sized size small =
   where
     go : (h even odd last : ℕ) → h * (2 * 1000000000000) ≤ size * size → 1000000000000 + h ≤ even → size ≤ odd → even + odd + last ≤ 1000000000000 + size + 2 * h → Sized size even odd
     go h even odd last l e o m = record { least = omega arith; odd_least = o; most = omega arith }
+
+-- e(−a) is well above 0 for an argument of at most 1.05
+pub odd_less : (size : ℕ) → size ≤ 1050000000000 → (terms size 9).odd + 400 ≤ (terms size 9).even
+odd_less size small =
+    let b = bounded size 9 (omega arith) in
+    let h = (next_under size 2 size (omega arith)).1 in
+    go (next_term_lem size 2 size) (terms size 9).even (terms size 9).odd (terms size 9).last h b.even_least b.odd_most
+  where
+    go : (h even odd last : ℕ) → size * size ≤ h * (2 * 1000000000000) + 2 * 1000000000000 → 1000000000000 + h ≤ even → 3 * odd + 2 * last ≤ 3 * size + 2 * h → odd + 400 ≤ even
+    go h even odd last l e o = elim (cases_lt size 900000000000) [
+      | inl k ↦ omega arith
+      | inr k ↦ omega (arith, small, mul-le-mul_left size k)
+    ]

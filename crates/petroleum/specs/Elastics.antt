@@ -1,7 +1,7 @@
 -- The elastic part of the exponential liquid: 1 − gP in whole units of 10⁻¹².
 -- The exponent of 1,000·g is U/b − W/10¹⁰, where b is the density's square in its unit.
 use Rattle.std.specs.Prelude.{◌≡◌, ℕ, ◌+◌, ◌-◌, ◌*◌, ◌/◌, ◌<◌, ◌≤◌, true, false, ℤ, pos, ◌+ℤ◌, ◌-ℤ◌, nat_le, refl}
-use Rattle.std.proofs.Common.{sym, subst, inl, inr, arith, mul-pos, mul-le-mul, mul-le-mul_left, mul-le-mul_right, le_of_mul-le-mul_right, lit<}
+use Rattle.std.proofs.Common.{sym, subst, ◌∙◌, inl, inr, arith, mul-pos, mul-le-mul, mul-le-mul_left, mul-le-mul_right, le_of_mul-le-mul_right, lit<}
 use Rattle.std.proofs.lemmas.Int.{ints}
 use Rattle.std.proofs.lemmas.Bool.{cases_lt}
 use Rattle.std.proofs.lemmas.Bool.Decides.{nat_tests}
@@ -10,13 +10,14 @@ use Rattle.exact.proofs.Worth.{Worth, worth_nat, worth_add, worth_neg, worth_mul
 use Rattle.exact.proofs.Quotients.{floor_under}
 use Rattle.expsum.specs.Series.{e}
 use Rattle.expsum.specs.Terms.{terms}
-use Rattle.expsum.proofs.Near.{Near, Close}
-use Rattle.expsum.proofs.Bounds.{Sized, sized}
+use Rattle.expsum.proofs.Near.{Near}
+use Rattle.expsum.proofs.Bounds.{Sized, sized, odd_less}
 use Rattle.expsum.proofs.Sums.{sum_rising, sum_falling}
 use Rattle.petroleum.specs.Exponential.{Figures, figures, density_squared, compression_exponent, compressibility, elastic}
-use Rattle.petroleum.specs.Rounded.{rising, over_density_lem, beside_density_lem, elastic_rising_lem, elastic_falling_lem, elastic_units}
+use Rattle.petroleum.specs.Rounded.{rising, falling, over_density_lem, beside_density_lem, elastic_rising, elastic_falling, compressibility_units, elastic_units}
 use Rattle.petroleum.specs.declared.exponential.Exponential.{Exponential}
 use Rattle.liquid.specs.Readings.{parts_worth, degrees_worth, megapascals_worth}
+use Rattle.petroleum.specs.Thermals.{close_near}
 use Rattle.petroleum.specs.Openings.{squared_worth, square_least, square_most}
 
 -- the exponent's worth
@@ -33,17 +34,19 @@ exponent_worth f t n b o w i =
     worth_of (worth_add (worth_add (worth_add (worth_neg (parts_worth 100000 162080 (lit< tt))) (worth_mul (parts_worth 100000000 21592 (lit< tt)) (degrees_worth t n i))) (worth_div o (worth_nat 870960) w))
     (worth_div o (worth_mul (parts_worth 10 42092 (lit< tt)) (degrees_worth t n i)) w)) (omega arith) (exponent_n n b)
 
--- the exponent against its size: u is U/b in units, and w is W/10¹⁰ in units
+-- a difference of two numbers, P/D and Q/D, near that of their units, p and q, of which p is the larger
+difference_near : {x : Fraction} (p q P Q D : ℕ) → Worth x P Q D → q ≤ p → 1000000000000 * Q ≤ p * D → p * D ≤ 1000000000000 * P → 1000000000000 * P ≤ p * D + D
+    → q * D ≤ 1000000000000 * Q → 1000000000000 * Q ≤ q * D + D → Near 4 (p - q) x
+difference_near {x} p q P Q D w l o a b c d =
+    let t : (p - q + q) * D ≡ p * D = (let e : p - q + q ≡ p = omega arith in rw e refl) in
+    let r : Q ≤ P = omega arith in
+    record { top = P - Q; bottom = D; worth = worth_of w w.positive (go (P - Q) Q P D (omega arith)); least = omega arith; most = omega arith }
+  where
+    go : (Z Q P D : ℕ) → Z + Q ≡ P → P * D + 0 * D ≡ Z * D + Q * D
+    go Z Q P D h = rw (← h) (omega arith)
+
+-- how large the exponent is: u is U/b in units, and W/10¹⁰ is 100·W units
 -- where it is not negative
-above_n : (u W U b : ℕ) → 100 * W ≤ u → u * b ≤ 1000000000000 * U → W * b ≤ 10000000000 * U
-above_n u W U b h k = let a : 100 * W * b ≤ u * b = mul-le-mul_right b h in omega arith
-
-above_near : (u W U b z Z : ℕ) → z + 100 * W ≡ u → Z + W * b ≡ 10000000000 * U → u * b ≤ 1000000000000 * U → 1000000000000 * U ≤ u * b + b
-    → (z * (10000000000 * b) ≤ 1000000000000 * Z + 4 * (10000000000 * b)) × (1000000000000 * Z ≤ z * (10000000000 * b) + 4 * (10000000000 * b))
-above_near u W U b z Z h i j k =
-    let a : (z + 100 * W) * b ≡ u * b = rw h refl in
-    (omega arith, omega arith)
-
 above_most : (u W U b n : ℕ) → 3600000000 ≤ b → n ≤ 6000 → U ≡ 8288680000 + 420920 * n → W + 21592 * n ≡ 16229592000 → u * b ≤ 1000000000000 * U → u ≤ 1400000000000 + 100 * W
 above_most u W U b n o m h i k =
     let a : (1400000000000 + 100 * W) * 3600000000 ≤ (1400000000000 + 100 * W) * b = mul-le-mul_left (1400000000000 + 100 * W) o in
@@ -51,75 +54,71 @@ above_most u W U b n o m h i k =
     le_of_mul-le-mul_right c (omega arith)
 
 -- where it is negative
-below_n : (u W U b : ℕ) → u < 100 * W → 1000000000000 * U ≤ u * b + b → 10000000000 * U ≤ W * b
-below_n u W U b h k =
-    let g : u + 1 ≤ 100 * W = omega arith in
-    let a : (u + 1) * b ≤ 100 * W * b = mul-le-mul_right b g in
-    omega arith
-
-below_near : (u W U b z Z : ℕ) → z + u ≡ 100 * W → Z + 10000000000 * U ≡ W * b → u * b ≤ 1000000000000 * U → 1000000000000 * U ≤ u * b + b
-    → (z * (10000000000 * b) ≤ 1000000000000 * Z + 4 * (10000000000 * b)) × (1000000000000 * Z ≤ z * (10000000000 * b) + 4 * (10000000000 * b))
-below_near u W U b z Z h i j k =
-    let a : (z + u) * b ≡ 100 * W * b = rw h refl in
-    (omega arith, omega arith)
-
 below_most : (u W U b n : ℕ) → b ≤ 14400000000 → U ≡ 8288680000 + 420920 * n → W + 21592 * n ≡ 16229592000 → 1000000000000 * U ≤ u * b + b → 100 * W ≤ u + 1050000000000
 below_most u W U b n o h i k =
     let a : (u + 1) * b ≤ (u + 1) * 14400000000 = mul-le-mul_left (u + 1) o in
     omega arith
 
--- 1 − gP from e(z): P and M are the units of e(z), H is 10⁶ times the answer before it is rounded
-taken_n : (P M p ep em b : ℕ) → P ≤ 4360000000000 → p ≤ 10000 → 1000000000000 * ep + M * b ≤ P * b + 1000000000000 * em + 400 * b → ep * p ≤ 1000000 * b + em * p
-taken_n P M p ep em b h i k =
-    let a : (1000000000000 * ep + M * b) * p ≤ (P * b + 1000000000000 * em + 400 * b) * p = mul-le-mul_right p k in
-    let c : P * p ≤ 4360000000000 * 10000 = mul-le-mul h i in
-    let d : P * p * b ≤ 4360000000000 * 10000 * b = mul-le-mul_right b c in
-    let f : 400 * p * b ≤ 400 * 10000 * b = mul-le-mul_right b (omega arith) in
-    omega arith
+-- the exponent's two parts in units
+over_under : (l : Exponential) (n : ℕ) → (over_density_lem l n * (l.density.hundredths * l.density.hundredths) ≤ 1000000000000 * (8288680000 + 420920 * n)) × (1000000000000 * (8288680000 + 420920 * n) ≤ over_density_lem l n * (l.density.hundredths * l.density.hundredths) + l.density.hundredths * l.density.hundredths)
+unfolding over_density_lem
+over_under l n =
+    let d : 0 < l.density.hundredths = omega (arith, l.density.ranged.0) in
+    let f = floor_under (1000000000000 * (8288680000 + 420920 * n)) (l.density.hundredths * l.density.hundredths) (mul-pos d d) in
+    (f.0, omega (arith, f.1))
 
-elastic_n : (P M p ep em b H G T : ℕ) → p ≤ 10000 → H + P * p ≡ 1000000000000000000 + M * p → T + ep * p ≡ 1000000 * b + em * p
-    → G * 1000000 ≤ H → H ≤ G * 1000000 + 1000000
-    → P * b + 1000000000000 * em ≤ 1000000000000 * ep + M * b + 400 * b → 1000000000000 * ep + M * b ≤ P * b + 1000000000000 * em + 400 * b
-    → (G * (1000000 * b) ≤ 1000000000000 * T + 5 * (1000000 * b)) × (1000000000000 * T ≤ G * (1000000 * b) + 5 * (1000000 * b))
-elastic_n P M p ep em b H G T i h t g k c d =
-    let a : (H + P * p) * b ≡ (1000000000000000000 + M * p) * b = rw h refl in
-    let c1 : (P * b + 1000000000000 * em) * p ≤ (1000000000000 * ep + M * b + 400 * b) * p = mul-le-mul_right p c in
-    let d1 : (1000000000000 * ep + M * b) * p ≤ (P * b + 1000000000000 * em + 400 * b) * p = mul-le-mul_right p d in
-    let f : 400 * p * b ≤ 400 * 10000 * b = mul-le-mul_right b (omega arith) in
-    let g1 : G * 1000000 * b ≤ H * b = mul-le-mul_right b g in
-    let k1 : H * b ≤ (G * 1000000 + 1000000) * b = mul-le-mul_right b k in
-    (omega arith, omega arith)
+beside_is : (n : ℕ) → beside_density_lem n ≡ 100 * (16229592000 - 21592 * n)
+unfolding beside_density_lem
+beside_is n = refl
 
--- the worth of 1 − gP
-elastic_worth : (f : Figures) (t q : ℤ) (p ep em b T : ℕ) → q ≡ pos p → Worth (e (compression_exponent f t)) ep em b → T + ep * p ≡ 1000000 * b + em * p → Worth (elastic f t q) T 0 (1000000 * b)
-unfolding elastic compressibility
-elastic_worth f t q p ep em b T i w h =
-    worth_of (worth_add (worth_nat 1) (worth_neg (worth_mul (worth_mul (parts_worth 1000 1 (lit< tt)) w) (megapascals_worth q p i)))) (omega (arith, w.positive)) (go T p ep em b h)
+-- the exponent is U/b − W/10¹⁰, its parts over one bottom
+exponent_at : (l : Exponential) (t : ℤ) (n W : ℕ) → t +ℤ pos 1000 ≡ pos n → W + 21592 * n ≡ 16229592000 → Worth (compression_exponent (figures l) t) (10000000000 * (8288680000 + 420920 * n)) (W * (l.density.hundredths * l.density.hundredths)) (10000000000 * (l.density.hundredths * l.density.hundredths))
+exponent_at l t n W i h =
+    let d : 0 < l.density.hundredths = omega (arith, l.density.ranged.0) in
+    let w = exponent_worth (figures l) t n (l.density.hundredths * l.density.hundredths) (mul-pos d d) (squared_worth (figures l) l.density.hundredths refl) i in
+    worth_of w w.positive (go (l.density.hundredths * l.density.hundredths) (10000000000 * (8288680000 + 420920 * n)) (10000000000 * (l.density.hundredths * l.density.hundredths)))
   where
-    go : (T p ep em b : ℕ) → T + ep * p ≡ 1000000 * b + em * p
-        → (1 * (1000 * b * 1000) + ((1 * ep + 0 * em) * 0 + (1 * em + 0 * ep) * p) * 1) * (1000000 * b) + 0 * (1 * (1000 * b * 1000)) ≡ T * (1 * (1000 * b * 1000)) + (0 * (1000 * b * 1000) + ((1 * ep + 0 * em) * p + (1 * em + 0 * ep) * 0) * 1) * (1000000 * b)
-    go T p ep em b h = let k : (T + ep * p) * b ≡ (1000000 * b + em * p) * b = rw h refl in omega arith
+    go : (b U d : ℕ) → (U + 21592 * n * b) * d + W * b * d ≡ U * d + 16229592000 * b * d
+    go b U d = let k : (W + 21592 * n) * b ≡ 16229592000 * b = rw h refl in let m : (W * b + 21592 * n * b) * d ≡ 16229592000 * b * d = rw (← k) (omega arith) in omega arith
 
-pub elastic_near : (f : Figures) (t q : ℤ) (p P M H : ℕ) → p ≤ 10000 → P ≤ 4360000000000 → q ≡ pos p → H + P * p ≡ 1000000000000000000 + M * p
-    → Close 400 P M (e (compression_exponent f t)) → Near 5 (H / 1000000) (elastic f t q)
-elastic_near f t q p P M H i small j h c =
-    let g = floor_under H 1000000 (lit< tt) in
-    let room = taken_n P M p c.plus c.minus c.bottom small i c.most in
-    let is : ((1000000 * c.bottom + c.minus * p) - c.plus * p) + c.plus * p ≡ 1000000 * c.bottom + c.minus * p = omega arith in
-    let s = elastic_n P M p c.plus c.minus c.bottom H (H / 1000000) ((1000000 * c.bottom + c.minus * p) - c.plus * p) i h is g.0 (omega (arith, g.1)) c.least c.most in
-    record {
-      top = (1000000 * c.bottom + c.minus * p) - c.plus * p;
-      bottom = 1000000 * c.bottom;
-      worth = elastic_worth f t q p c.plus c.minus c.bottom ((1000000 * c.bottom + c.minus * p) - c.plus * p) j c.worth is;
-      least = s.0;
-      most = s.1;
-    }
+-- and their units
+parts_near : (u W U b : ℕ) → u * b ≤ 1000000000000 * U → 1000000000000 * U ≤ u * b + b
+    → (u * (10000000000 * b) ≤ 1000000000000 * (10000000000 * U)) × (1000000000000 * (10000000000 * U) ≤ u * (10000000000 * b) + 10000000000 * b) × (100 * W * (10000000000 * b) ≡ 1000000000000 * (W * b))
+parts_near u W U b h i = (omega arith, omega arith, omega arith)
 
--- what the elastic part is: near the exact one, and in its range
-pub record Elastic (units : ℕ) (x : Fraction) : Type 0 where
-  pub near : Near 5 units x
-  pub least : 956000000000 ≤ units
-  pub most : units ≤ 1001000000000
+module _ (l : Exponential) (t : ℤ) (n : ℕ) (warm : n ≤ 6000) (at : t +ℤ pos 1000 ≡ pos n) where
+  above_exponent : beside_density_lem n ≤ over_density_lem l n → (over_density_lem l n - beside_density_lem n ≤ 1400000000000) × Near 4 (over_density_lem l n - beside_density_lem n) (compression_exponent (figures l) t)
+  above_exponent h =
+      let W = 16229592000 - 21592 * n in
+      let U = 8288680000 + 420920 * n in
+      let b = (l.density.hundredths * l.density.hundredths) in
+      let o = over_under l n in
+      let k = beside_is n in
+      let is : W + 21592 * n ≡ 16229592000 = omega arith in
+      let s = parts_near (over_density_lem l n) W U b o.0 o.1 in
+      let m = above_most (over_density_lem l n) W U b n (square_least l.density.hundredths l.density.ranged.0) warm refl is o.0 in
+      let g : 100 * W ≤ over_density_lem l n = omega arith in
+      (omega arith, rw k (difference_near (over_density_lem l n) (100 * W) (10000000000 * U) (W * b) (10000000000 * b) (exponent_at l t n W at is) g (omega (arith, s.2, mul-le-mul_right (10000000000 * b) g)) s.0 s.1 (omega (arith, s.2)) (omega (arith, s.2))))
+
+  below_exponent : over_density_lem l n < beside_density_lem n → (beside_density_lem n - over_density_lem l n ≤ 1050000000000) × Near 4 (beside_density_lem n - over_density_lem l n) (neg (compression_exponent (figures l) t))
+  below_exponent h =
+      let W = 16229592000 - 21592 * n in
+      let U = 8288680000 + 420920 * n in
+      let b = (l.density.hundredths * l.density.hundredths) in
+      let o = over_under l n in
+      let k = beside_is n in
+      let is : W + 21592 * n ≡ 16229592000 = omega arith in
+      let s = parts_near (over_density_lem l n) W U b o.0 o.1 in
+      let m = below_most (over_density_lem l n) W U b n (square_most l.density.hundredths l.density.ranged.1) refl is o.1 in
+      let g : over_density_lem l n + 1 ≤ 100 * W = omega arith in
+      (omega arith, rw k (difference_near (100 * W) (over_density_lem l n) (W * b) (10000000000 * U) (10000000000 * b) (worth_neg (exponent_at l t n W at is)) (omega arith) (omega (arith, s.1, s.2, mul-le-mul_right (10000000000 * b) g)) (omega (arith, s.2)) (omega (arith, s.2)) s.0 s.1))
+
+-- the size of the exponent
+pub above_small : (l : Exponential) (n : ℕ) → n ≤ 6000 → beside_density_lem n ≤ over_density_lem l n → over_density_lem l n - beside_density_lem n ≤ 1400000000000
+above_small l n h k = (above_exponent l (pos n -ℤ pos 1000) n h (omega (arith, ints)) k).0
+
+pub below_small : (l : Exponential) (n : ℕ) → n ≤ 6000 → over_density_lem l n < beside_density_lem n → beside_density_lem n - over_density_lem l n ≤ 1050000000000
+below_small l n h k = (below_exponent l (pos n -ℤ pos 1000) n h (omega (arith, ints)) k).0
 
 -- the sums for an exponent of at most 1.4
 pub sums_most : (size even odd : ℕ) → size ≤ 1400000000000 → Sized size even odd → even + odd ≤ 4360000000000
@@ -128,128 +127,133 @@ sums_most size even odd h s =
     let b = s.most in
     omega arith
 
-range_n : (H : ℕ) → 956400000000000000 ≤ H → H ≤ 1000500000000000000 → (956000000000 ≤ H / 1000000) × (H / 1000000 ≤ 1001000000000)
-range_n H l m = let g = floor_under H 1000000 (lit< tt) in (omega (arith, g.1), omega (arith, g.0))
+-- what 1,000·g is: near the exact one, and in its range
+pub record Compressibility (units : ℕ) (x : Fraction) : Type 0 where
+  pub near : Near 400 units x
+  pub most : units ≤ 4360000000000
 
-rising_whole : (P p : ℕ) → P ≤ 4360000000000 → p ≤ 10000 → ((1000000000000000000 - P * p) + P * p ≡ 1000000000000000000 + 0 * p) × (956400000000000000 ≤ 1000000000000000000 - P * p)
-rising_whole P p h i = let a : P * p ≤ 4360000000000 * 10000 = mul-le-mul h i in (omega arith, omega arith)
+compressibility_rises : (x : Fraction) (size : ℕ) → size ≤ 1400000000000 → Near 4 size x → Compressibility (rising size) (e x)
+unfolding rising
+compressibility_rises x size h n =
+    let s = sized size (omega arith) in
+    let m = sums_most size (terms size 9).even (terms size 9).odd h s in
+    record { near = close_near ((terms size 9).even + (terms size 9).odd) (omega arith) (omega (arith, s.least, s.odd_least)) (sum_rising x size (omega arith) n); most = m }
 
-pub elastic_rises : (f : Figures) (t q : ℤ) (p size : ℕ) → p ≤ 10000 → q ≡ pos p → size ≤ 1400000000000 → Near 4 size (compression_exponent f t) → Elastic (elastic_rising_lem size p) (elastic f t q)
-unfolding elastic_rising_lem rising
-elastic_rises f t q p size i j h n =
-    let m = sums_most size (terms size 9).even (terms size 9).odd h (sized size (omega arith)) in
-    let w = rising_whole ((terms size 9).even + (terms size 9).odd) p m i in
-    let r = range_n (1000000000000000000 - ((terms size 9).even + (terms size 9).odd) * p) w.1 (omega arith) in
-    record { near = elastic_near f t q p ((terms size 9).even + (terms size 9).odd) 0 (1000000000000000000 - ((terms size 9).even + (terms size 9).odd) * p) i m j w.0 (sum_rising (compression_exponent f t) size (omega arith) n); least = r.0; most = r.1 }
+compressibility_falls : (x : Fraction) (size : ℕ) → size ≤ 1050000000000 → Near 4 size (neg x) → Compressibility (falling size) (e x)
+unfolding falling
+compressibility_falls x size h n =
+    let l = odd_less size h in
+    let m = sums_most size (terms size 9).even (terms size 9).odd (omega arith) (sized size (omega arith)) in
+    record { near = close_near ((terms size 9).even - (terms size 9).odd) (omega arith) (omega arith) (sum_falling x size (omega arith) n); most = omega arith }
 
-falling_whole : (size even odd p : ℕ) → size ≤ 1050000000000 → p ≤ 10000 → Sized size even odd
-    → (even ≤ 4360000000000) × ((1000000000000000000 + odd * p - even * p) + even * p ≡ 1000000000000000000 + odd * p) × (956400000000000000 ≤ 1000000000000000000 + odd * p - even * p) × (1000000000000000000 + odd * p - even * p ≤ 1000500000000000000)
-falling_whole size even odd p h i s =
-    let m = sums_most size even odd (omega arith) s in
-    let l = s.least in
-    let a : even * p ≤ 4360000000000 * 10000 = mul-le-mul (let k : even ≤ 4360000000000 = omega arith in k) i in
-    let b : odd * p ≤ (even + 50000000000) * p = mul-le-mul_right p (omega arith) in
-    (omega arith, omega arith, omega arith, omega arith)
+pub above_exponential : (l : Exponential) (n : ℕ) → beside_density_lem n ≤ over_density_lem l n → compressibility_units l n ≡ rising (over_density_lem l n - beside_density_lem n)
+unfolding compressibility_units
+above_exponential l n h = let s : nat_le (beside_density_lem n) (over_density_lem l n) ≡ true = grind (arith, nat_tests) in rw s refl
 
-pub elastic_falls : (f : Figures) (t q : ℤ) (p size : ℕ) → p ≤ 10000 → q ≡ pos p → size ≤ 1050000000000 → Near 4 size (neg (compression_exponent f t)) → Elastic (elastic_falling_lem size p) (elastic f t q)
-unfolding elastic_falling_lem
-elastic_falls f t q p size i j h n =
-    let w = falling_whole size (terms size 9).even (terms size 9).odd p h i (sized size (omega arith)) in
-    let r = range_n (1000000000000000000 + (terms size 9).odd * p - (terms size 9).even * p) w.2 w.3 in
-    record { near = elastic_near f t q p (terms size 9).even (terms size 9).odd (1000000000000000000 + (terms size 9).odd * p - (terms size 9).even * p) i w.0 j w.1 (sum_falling (compression_exponent f t) size (omega arith) n); least = r.0; most = r.1 }
+pub below_exponential : (l : Exponential) (n : ℕ) → over_density_lem l n < beside_density_lem n → compressibility_units l n ≡ falling (beside_density_lem n - over_density_lem l n)
+unfolding compressibility_units
+below_exponential l n h = let s : nat_le (beside_density_lem n) (over_density_lem l n) ≡ false = grind (arith, nat_tests) in rw s refl
 
--- the exponent's two parts in units
-over_under : (l : Exponential) (n : ℕ) → (over_density_lem l n * (l.density * l.density) ≤ 1000000000000 * (8288680000 + 420920 * n)) × (1000000000000 * (8288680000 + 420920 * n) ≤ over_density_lem l n * (l.density * l.density) + l.density * l.density)
-unfolding over_density_lem
-over_under l n =
-    let d : 0 < l.density = omega (arith, l.dense.0) in
-    let f = floor_under (1000000000000 * (8288680000 + 420920 * n)) (l.density * l.density) (mul-pos d d) in
-    (f.0, omega (arith, f.1))
+compressibility_is : (l : Exponential) (t : ℤ) (n : ℕ) → n ≤ 6000 → t +ℤ pos 1000 ≡ pos n → Compressibility (compressibility_units l n) (e (compression_exponent (figures l) t))
+compressibility_is l t n k at = elim (cases_lt (over_density_lem l n) (beside_density_lem n)) [
+  | inl h ↦ (let s = below_exponent l t n k at h in subst (λ (u : ℕ). Compressibility u (e (compression_exponent (figures l) t))) (sym (below_exponential l n h)) (compressibility_falls (compression_exponent (figures l) t) (beside_density_lem n - over_density_lem l n) s.0 s.1))
+  | inr h ↦ (let s = above_exponent l t n k at h in subst (λ (u : ℕ). Compressibility u (e (compression_exponent (figures l) t))) (sym (above_exponential l n h)) (compressibility_rises (compression_exponent (figures l) t) (over_density_lem l n - beside_density_lem n) s.0 s.1))
+]
 
-beside_is : (n : ℕ) → beside_density_lem n ≡ 100 * (16229592000 - 21592 * n)
-unfolding beside_density_lem
-beside_is n = refl
-
-exponent_at : (l : Exponential) (t : ℤ) (n : ℕ) → t +ℤ pos 1000 ≡ pos n → Worth (compression_exponent (figures l) t) (10000000000 * (8288680000 + 420920 * n) + 21592 * n * (l.density * l.density)) (16229592000 * (l.density * l.density)) (10000000000 * (l.density * l.density))
-exponent_at l t n i =
-    let d : 0 < l.density = omega (arith, l.dense.0) in
-    exponent_worth (figures l) t n (l.density * l.density) (mul-pos d d) (squared_worth (figures l) l.density refl) i
-
--- not negative
-above_worth : {x : Fraction} (n b U W Z : ℕ) → W + 21592 * n ≡ 16229592000 → Z + W * b ≡ 10000000000 * U → Worth x (10000000000 * U + 21592 * n * b) (16229592000 * b) (10000000000 * b) → Worth x Z 0 (10000000000 * b)
-above_worth n b U W Z h i w = worth_of w w.positive (go b (W * b) (10000000000 * U) (21592 * n * b) (16229592000 * b) Z (10000000000 * b) i (let k : (W + 21592 * n) * b ≡ 16229592000 * b = rw h refl in omega arith))
-  where
-    go : (b Wb U nb m Z d : ℕ) → Z + Wb ≡ U → Wb + nb ≡ m → (U + nb) * d + 0 * d ≡ Z * d + m * d
-    go b Wb U nb m Z d h k = rw (← h, ← k) (omega arith)
-
--- negative
-below_worth : {x : Fraction} (n b U W Z : ℕ) → W + 21592 * n ≡ 16229592000 → Z + 10000000000 * U ≡ W * b → Worth x (10000000000 * U + 21592 * n * b) (16229592000 * b) (10000000000 * b) → Worth (neg x) Z 0 (10000000000 * b)
-below_worth n b U W Z h i w = worth_of (worth_neg w) w.positive (go (W * b) (10000000000 * U) (21592 * n * b) (16229592000 * b) Z (10000000000 * b) i (let k : (W + 21592 * n) * b ≡ 16229592000 * b = rw h refl in omega arith))
-  where
-    go : (Wb U nb m Z d : ℕ) → Z + U ≡ Wb → Wb + nb ≡ m → m * d + 0 * d ≡ Z * d + (U + nb) * d
-    go Wb U nb m Z d h k = rw (← k, ← h) (omega arith)
-
-module _ (l : Exponential) (t : ℤ) (n : ℕ) (warm : n ≤ 6000) (at : t +ℤ pos 1000 ≡ pos n) where
-  above_exponent : beside_density_lem n ≤ over_density_lem l n → (over_density_lem l n - beside_density_lem n ≤ 1400000000000) × Near 4 (over_density_lem l n - beside_density_lem n) (compression_exponent (figures l) t)
-  above_exponent h =
-      let o = over_under l n in
-      let k = beside_is n in
-      let W = 16229592000 - 21592 * n in
-      let U = 8288680000 + 420920 * n in
-      let b = l.density * l.density in
-      let is : W + 21592 * n ≡ 16229592000 = omega arith in
-      let room = above_n (over_density_lem l n) W U b (omega arith) o.0 in
-      let Z = 10000000000 * U - W * b in
-      let top : Z + W * b ≡ 10000000000 * U = omega arith in
-      let s = above_near (over_density_lem l n) W U b (over_density_lem l n - beside_density_lem n) Z (omega arith) top o.0 o.1 in
-      let m = above_most (over_density_lem l n) W U b n (square_least l.density l.dense.0) warm refl is o.0 in
-      (omega arith, record { top = Z; bottom = 10000000000 * b; worth = above_worth n b U W Z is top (exponent_at l t n at); least = s.0; most = s.1 })
-
-  below_exponent : over_density_lem l n < beside_density_lem n → (beside_density_lem n - over_density_lem l n ≤ 1050000000000) × Near 4 (beside_density_lem n - over_density_lem l n) (neg (compression_exponent (figures l) t))
-  below_exponent h =
-      let o = over_under l n in
-      let k = beside_is n in
-      let W = 16229592000 - 21592 * n in
-      let U = 8288680000 + 420920 * n in
-      let b = l.density * l.density in
-      let is : W + 21592 * n ≡ 16229592000 = omega arith in
-      let room = below_n (over_density_lem l n) W U b (omega arith) o.1 in
-      let Z = W * b - 10000000000 * U in
-      let top : Z + 10000000000 * U ≡ W * b = omega arith in
-      let s = below_near (over_density_lem l n) W U b (beside_density_lem n - over_density_lem l n) Z (omega arith) top o.0 o.1 in
-      let m = below_most (over_density_lem l n) W U b n (square_most l.density l.dense.1) refl is o.1 in
-      (omega arith, record { top = Z; bottom = 10000000000 * b; worth = below_worth n b U W Z is top (exponent_at l t n at); least = s.0; most = s.1 })
-
-pub above_units : (l : Exponential) (n p : ℕ) → beside_density_lem n ≤ over_density_lem l n → elastic_units l n p ≡ elastic_rising_lem (over_density_lem l n - beside_density_lem n) p
+-- the answer from it, whichever way the exponent goes
+pub above_units : (l : Exponential) (n p : ℕ) → beside_density_lem n ≤ over_density_lem l n → elastic_units l n p ≡ elastic_rising (over_density_lem l n - beside_density_lem n) p
 unfolding elastic_units
 above_units l n p h = let s : nat_le (beside_density_lem n) (over_density_lem l n) ≡ true = grind (arith, nat_tests) in rw s refl
 
-pub below_units : (l : Exponential) (n p : ℕ) → over_density_lem l n < beside_density_lem n → elastic_units l n p ≡ elastic_falling_lem (beside_density_lem n - over_density_lem l n) p
+pub below_units : (l : Exponential) (n p : ℕ) → over_density_lem l n < beside_density_lem n → elastic_units l n p ≡ elastic_falling (beside_density_lem n - over_density_lem l n) p
 unfolding elastic_units
 below_units l n p h = let s : nat_le (beside_density_lem n) (over_density_lem l n) ≡ false = grind (arith, nat_tests) in rw s refl
 
-pub elastic_is : (l : Exponential) (t q : ℤ) (n p : ℕ) → n ≤ 6000 → p ≤ 10000 → t +ℤ pos 1000 ≡ pos n → q ≡ pos p → Elastic (elastic_units l n p) (elastic (figures l) t q)
-elastic_is l t q n p k i at j = elim (cases_lt (over_density_lem l n) (beside_density_lem n)) [
-  | inl h ↦ (let s = below_exponent l t n k at h in subst (λ (u : ℕ). Elastic u (elastic (figures l) t q)) (sym (below_units l n p h)) (elastic_falls (figures l) t q p (beside_density_lem n - over_density_lem l n) i j s.0 s.1))
-  | inr h ↦ (let s = above_exponent l t n k at h in subst (λ (u : ℕ). Elastic u (elastic (figures l) t q)) (sym (above_units l n p h)) (elastic_rises (figures l) t q p (over_density_lem l n - beside_density_lem n) i j s.0 s.1))
+rising_is : (size p : ℕ) → elastic_rising size p ≡ (1000000000000000000 - rising size * p) / 1000000
+unfolding elastic_rising
+rising_is size p = refl
+
+falling_is : (size p : ℕ) → size ≤ 1050000000000 → elastic_falling size p ≡ (1000000000000000000 - falling size * p) / 1000000
+unfolding elastic_falling falling
+falling_is size p h = go (terms size 9).even (terms size 9).odd (omega (arith, odd_less size h))
+  where
+    go : (even odd : ℕ) → odd ≤ even → (1000000000000000000 + odd * p - even * p) / 1000000 ≡ (1000000000000000000 - (even - odd) * p) / 1000000
+    go even odd l =
+        let e : (even - odd) + odd ≡ even = omega arith in
+        let f : ((even - odd) + odd) * p ≡ even * p = rw e refl in
+        let g : 1000000000000000000 + odd * p - even * p ≡ 1000000000000000000 - (even - odd) * p = omega arith in
+        rw g refl
+
+pub elastic_units_is : (l : Exponential) (n p : ℕ) → n ≤ 6000 → elastic_units l n p ≡ (1000000000000000000 - compressibility_units l n * p) / 1000000
+elastic_units_is l n p k = elim (cases_lt (over_density_lem l n) (beside_density_lem n)) [
+  | inl h ↦ rw (below_exponential l n h) (below_units l n p h ∙ falling_is (beside_density_lem n - over_density_lem l n) p (below_small l n k h))
+  | inr h ↦ rw (above_exponential l n h) (above_units l n p h ∙ rising_is (over_density_lem l n - beside_density_lem n) p)
 ]
 
--- what the program asks of them
-pub above_small : (l : Exponential) (n : ℕ) → n ≤ 6000 → beside_density_lem n ≤ over_density_lem l n → over_density_lem l n - beside_density_lem n ≤ 1400000000000
-above_small l n h k = (above_exponent l (pos n -ℤ pos 1000) n h (omega (arith, ints)) k).0
+-- 1 − gP from e(z): P is the units of e(z), T/b, and G those of the answer, R/(10⁶b)
+taken_n : (P p T b : ℕ) → P ≤ 4360000000000 → p ≤ 10000 → 1000000000000 * T ≤ P * b + 400 * b → T * p ≤ 1000000 * b
+taken_n P p T b h i k =
+    let a : 1000000000000 * T * p ≤ (P * b + 400 * b) * p = mul-le-mul_right p k in
+    let c : P * p ≤ 4360000000000 * 10000 = mul-le-mul h i in
+    let d : P * p * b ≤ 4360000000000 * 10000 * b = mul-le-mul_right b c in
+    let f : 400 * p * b ≤ 400 * 10000 * b = mul-le-mul_right b (omega arith) in
+    omega arith
 
-pub below_small : (l : Exponential) (n : ℕ) → n ≤ 6000 → over_density_lem l n < beside_density_lem n → beside_density_lem n - over_density_lem l n ≤ 1050000000000
-below_small l n h k = (below_exponent l (pos n -ℤ pos 1000) n h (omega (arith, ints)) k).0
+elastic_n : (P p T b H G R : ℕ) → p ≤ 10000 → H + P * p ≡ 1000000000000000000 → R + T * p ≡ 1000000 * b → G * 1000000 ≤ H → H ≤ G * 1000000 + 1000000
+    → P * b ≤ 1000000000000 * T + 400 * b → 1000000000000 * T ≤ P * b + 400 * b
+    → (G * (1000000 * b) ≤ 1000000000000 * R + 5 * (1000000 * b)) × (1000000000000 * R ≤ G * (1000000 * b) + 5 * (1000000 * b))
+elastic_n P p T b H G R i h r g k c d =
+    let a : (H + P * p) * b ≡ 1000000000000000000 * b = rw h refl in
+    let c1 : P * b * p ≤ (1000000000000 * T + 400 * b) * p = mul-le-mul_right p c in
+    let d1 : 1000000000000 * T * p ≤ (P * b + 400 * b) * p = mul-le-mul_right p d in
+    let f : 400 * p * b ≤ 400 * 10000 * b = mul-le-mul_right b (omega arith) in
+    let g1 : G * 1000000 * b ≤ H * b = mul-le-mul_right b g in
+    let k1 : H * b ≤ (G * 1000000 + 1000000) * b = mul-le-mul_right b k in
+    (omega arith, omega arith)
+
+-- the worth of 1 − gP
+elastic_worth : (f : Figures) (t q : ℤ) (p T b R : ℕ) → q ≡ pos p → Worth (e (compression_exponent f t)) T 0 b → R + T * p ≡ 1000000 * b → Worth (elastic f t q) R 0 (1000000 * b)
+unfolding elastic compressibility
+elastic_worth f t q p T b R i w h =
+    worth_of (worth_add (worth_nat 1) (worth_neg (worth_mul (worth_mul (parts_worth 1000 1 (lit< tt)) w) (megapascals_worth q p i)))) (omega (arith, w.positive)) (go R p T b h)
+  where
+    go : (R p T b : ℕ) → R + T * p ≡ 1000000 * b
+        → (1 * (1000 * b * 1000) + ((1 * T + 0 * 0) * 0 + (1 * 0 + 0 * T) * p) * 1) * (1000000 * b) + 0 * (1 * (1000 * b * 1000)) ≡ R * (1 * (1000 * b * 1000)) + (0 * (1000 * b * 1000) + ((1 * T + 0 * 0) * p + (1 * 0 + 0 * T) * 0) * 1) * (1000000 * b)
+    go R p T b h = let k : (R + T * p) * b ≡ 1000000 * b * b = rw h refl in omega arith
+
+-- what the elastic part is: near the exact one, and in its range
+pub record Elastic (units : ℕ) (x : Fraction) : Type 0 where
+  pub near : Near 5 units x
+  pub least : 956000000000 ≤ units
+  pub most : units ≤ 1001000000000
+
+elastic_at : (f : Figures) (t q : ℤ) (p P : ℕ) → p ≤ 10000 → q ≡ pos p → Compressibility P (e (compression_exponent f t)) → Elastic ((1000000000000000000 - P * p) / 1000000) (elastic f t q)
+elastic_at f t q p P i j c =
+    let n = c.near in
+    let H = 1000000000000000000 - P * p in
+    let R = 1000000 * n.bottom - n.top * p in
+    let g = floor_under H 1000000 (lit< tt) in
+    let a : P * p ≤ 4360000000000 * 10000 = mul-le-mul c.most i in
+    let room = taken_n P p n.top n.bottom c.most i n.most in
+    let is : R + n.top * p ≡ 1000000 * n.bottom = omega arith in
+    let s = elastic_n P p n.top n.bottom H (H / 1000000) R i (omega arith) is g.0 (omega (arith, g.1)) n.least n.most in
+    record {
+      near = record { top = R; bottom = 1000000 * n.bottom; worth = elastic_worth f t q p n.top n.bottom R j n.worth is; least = s.0; most = s.1 };
+      least = omega (arith, g.1);
+      most = omega (arith, g.0);
+    }
+
+pub elastic_is : (l : Exponential) (t q : ℤ) (n p : ℕ) → n ≤ 6000 → p ≤ 10000 → t +ℤ pos 1000 ≡ pos n → q ≡ pos p → Elastic (elastic_units l n p) (elastic (figures l) t q)
+elastic_is l t q n p k i at j =
+    subst (λ (u : ℕ). Elastic u (elastic (figures l) t q)) (sym (elastic_units_is l n p k)) (elastic_at (figures l) t q p (compressibility_units l n) i j (compressibility_is l t n k at))
+
+-- what the program asks of them
+pub taken_most : (l : Exponential) (n p : ℕ) → n ≤ 6000 → p ≤ 10000 → compressibility_units l n * p ≤ 43600000000000000
+taken_most l n p h k =
+    let a : compressibility_units l n * p ≤ 4360000000000 * 10000 = mul-le-mul (compressibility_is l (pos n -ℤ pos 1000) n h (omega (arith, ints))).most k in
+    omega arith
 
 pub elastic_range : (l : Exponential) (n p : ℕ) → n ≤ 6000 → p ≤ 10000 → (956000000000 ≤ elastic_units l n p) × (elastic_units l n p ≤ 1001000000000)
 elastic_range l n p h k =
     let t = elastic_is l (pos n -ℤ pos 1000) (pos p) n p h k (omega (arith, ints)) refl in
     (t.least, t.most)
-
--- the products of the sums with a pressure
-pub products_most : (size even odd p : ℕ) → size ≤ 1050000000000 → p ≤ 10000 → even ≡ (terms size 9).even → odd ≡ (terms size 9).odd → (even * p ≤ 43600000000000000) × (odd * p ≤ 43600000000000000)
-products_most size even odd p h i a b =
-    let m = sums_most size (terms size 9).even (terms size 9).odd (omega arith) (sized size (omega arith)) in
-    let e : even * p ≤ 4360000000000 * 10000 = mul-le-mul (let k : even ≤ 4360000000000 = omega arith in k) i in
-    let o : odd * p ≤ 4360000000000 * 10000 = mul-le-mul (let k : odd ≤ 4360000000000 = omega arith in k) i in
-    (omega arith, omega arith)

@@ -4,10 +4,12 @@ use Rattle.exact.specs.Fractions.{Fraction, Le, nat, add, neg, sub, mul, div}
 use Rattle.exact.specs.Pairs.{parts}
 use Rattle.expsum.specs.Series.{e}
 use Rattle.pass.specs.Ranges.{between}
+use Rattle.pass.specs.declared.ranges.Density.{Density}
 use Rattle.pass.specs.declared.denials.Denial.{Denial}
 use Rattle.pass.specs.declared.denials.Denial.TheVariants.{Figure}
 use Rattle.liquid.specs.Questions.{degrees, megapascals}
 use Rattle.liquid.specs.declared.question.Question.{Question}
+use Rattle.petroleum.specs.declared.coefficients.Coefficients.{Coefficients}
 use Rattle.petroleum.specs.declared.exponential.Exponential.{Exponential}
 
 -- the figures of the liquid: the density at 15 °C in 0.01 kg/m³, K0 and K1 in 10⁻⁴, K2 in 10⁻⁸
@@ -77,13 +79,16 @@ exponential_place f =
     cond (between (pos 60000) (pos 120000) f.density)
     (cond (between (pos 0) (pos 30000000) f.k0) (cond (between (pos 0) (pos 10000) f.k1) (cond (between (negsuc 339999) (pos 0) f.k2) (cond (expansive f) 0 5) 4) 3) 2) 1
 
--- the figures of an open liquid
+-- the figures of a density and coefficients, and of an open liquid
+abbrev pub figures_of : Density → Coefficients → Figures
+figures_of r c = record { density = pos r.hundredths; k0 = pos c.k0; k1 = pos c.k1; k2 = neg_ℤ (pos c.minus_k2) }
+
 abbrev pub figures : Exponential → Figures
-figures l = record { density = pos l.density; k0 = pos l.k0; k1 = pos l.k1; k2 = neg_ℤ (pos l.minus_k2) }
+figures l = figures_of l.density l.coefficients
 
 -- Opening gives a liquid with exactly these figures, or the place of the first out of range.
 abbrev pub ExponentialOpened : Figures → Result Exponential Denial → Type 0
-ExponentialOpened f (Ok l) = (exponential_place f ≡ 0) × (f.density ≡ pos l.density) × (f.k0 ≡ pos l.k0) × (f.k1 ≡ pos l.k1) × (f.k2 ≡ neg_ℤ (pos l.minus_k2))
+ExponentialOpened f (Ok l) = (exponential_place f ≡ 0) × (f.density ≡ pos l.density.hundredths) × (f.k0 ≡ pos l.coefficients.k0) × (f.k1 ≡ pos l.coefficients.k1) × (f.k2 ≡ neg_ℤ (pos l.coefficients.minus_k2))
 ExponentialOpened f (Err d) = (0 < exponential_place f) × (d ≡ Figure (exponential_place f))
 
 -- The worked figures, of a gasoline of 715.40 kg/m³ without pressure: at 25 °C its density is between 0.98704 and 0.98705 of

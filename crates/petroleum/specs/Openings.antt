@@ -1,14 +1,10 @@
 -- b against its range, in whole numbers: b times 10⁸r², where r is in 0.01 kg/m³.
-use Rattle.std.specs.Prelude.{◌≡◌, ℕ, ◌+◌, ◌*◌, ◌<◌, ◌≤◌, Bool, true, false, cond, ◌&&◌, leb, ℤ, pos, negsuc, neg_ℤ, nat_le, refl}
-use Rattle.std.proofs.Common.{sym, ap, ◌∙◌, inl, inr, arith, mul-pos, mul-le-mul, lit<}
+use Rattle.std.specs.Prelude.{◌≡◌, ℕ, ◌+◌, ◌*◌, ◌<◌, ◌≤◌, pos, neg_ℤ, refl}
+use Rattle.std.proofs.Common.{arith, mul-pos, mul-le-mul, lit<}
 use Rattle.std.proofs.lemmas.Int.{ints}
-use Rattle.std.proofs.lemmas.Bool.{cases_lt}
-use Rattle.std.proofs.lemmas.Bool.Decides.{nat_tests}
-use Rattle.exact.specs.Fractions.{Fraction, Le, Lt}
 use Rattle.exact.specs.Pairs.{parts}
-use Rattle.exact.proofs.Worth.{Worth, worth_whole, worth_nat, worth_add, worth_mul, worth_div, worth_of, worth_le, worth_lt}
-use Rattle.pass.specs.Ranges.{between}
-use Rattle.petroleum.specs.Exponential.{Figures, density_at_15, density_squared, expansion_at_15, no_more, expansive, exponential_place}
+use Rattle.exact.proofs.Worth.{Worth, worth_whole, worth_nat, worth_add, worth_mul, worth_div, worth_of}
+use Rattle.petroleum.specs.Exponential.{Figures, density_at_15, density_squared, expansion_at_15}
 use Rattle.liquid.specs.Readings.{parts_worth}
 
 pub square_most : (r : ℕ) → r ≤ 120000 → r * r ≤ 14400000000
@@ -16,12 +12,6 @@ square_most r h = let a : r * r ≤ 120000 * 120000 = mul-le-mul h h in omega ar
 
 pub square_least : (r : ℕ) → 60000 ≤ r → 3600000000 ≤ r * r
 square_least r h = let a : 60000 * 60000 ≤ r * r = mul-le-mul h h in omega arith
-
-pub above_most : (r k1 : ℕ) → r ≤ 120000 → k1 ≤ 10000 → 1000000 * k1 * r ≤ 1200000000000000
-above_most r k1 h k = let a : k1 * r ≤ 10000 * 120000 = mul-le-mul k h in omega arith
-
-pub below_most : (r k2 : ℕ) → r ≤ 120000 → k2 ≤ 340000 → k2 * (r * r) ≤ 4896000000000000
-below_most r k2 h k = let a : k2 * (r * r) ≤ 340000 * 14400000000 = mul-le-mul k (square_most r h) in omega arith
 
 -- the density and its square
 pub density_worth : (f : Figures) (r : ℕ) → f.density ≡ pos r → Worth (density_at_15 f) r 0 100
@@ -47,75 +37,3 @@ expansion_worth r k0 k1 k2 o =
     let s : 0 < r * r = mul-pos o o in
     worth_of (worth_add (worth_add (worth_div s (parts_worth 10000 k0 (lit< tt)) (squared_worth f r refl)) (worth_div o (parts_worth 10000 k1 (lit< tt)) (density_worth f r refl))) (minus_worth k2)) (omega arith)
     (expansion_n r k0 k1 k2)
-
--- the tests of b, on its worth
-test_true : {x y : Fraction} → Le x y → no_more x y ≡ true
-test_true {x} {y} h = let l = h.le in grind (arith, nat_tests)
-
-test_false : {x y : Fraction} → Lt y x → no_more x y ≡ false
-test_false {x} {y} h = let l = h.lt in grind (arith, nat_tests)
-
--- the test against a worth, as one of naturals
-test_is : {x y : Fraction} {p m b q n c : ℕ} → Worth x p m b → Worth y q n c → no_more x y ≡ nat_le (p * c + n * b) (q * b + m * c)
-test_is {x} {y} {p} {m} {b} {q} {n} {c} h k = elim (cases_lt (q * b + m * c) (p * c + n * b)) [
-  | inl l ↦ test_false (worth_lt k h (omega arith)) ∙ (let s : leb (p * c + n * b) (q * b + m * c) ≡ false = grind (arith, nat_tests) in sym s)
-  | inr l ↦ test_true (worth_le h k l) ∙ (let s : leb (p * c + n * b) (q * b + m * c) ≡ true = grind (arith, nat_tests) in sym s)
-]
-
--- two tests that hold together are one
-same_test : (a b c d : ℕ) → (a ≤ b → c ≤ d) → (c ≤ d → a ≤ b) → nat_le a b ≡ nat_le c d
-same_test a b c d h k = elim (cases_lt b a) [
-  | inl l ↦ (let s : leb a b ≡ false = grind (arith, nat_tests) in let t : leb c d ≡ false = elim (cases_lt d c) [ inl m ↦ grind (arith, nat_tests) | inr m ↦ absurd (let z = k m in omega arith) ] in s ∙ sym t)
-  | inr l ↦ (let s : leb a b ≡ true = grind (arith, nat_tests) in let z = h l in let t : leb c d ≡ true = grind (arith, nat_tests) in s ∙ sym t)
-]
-
-pub least_is : (r k0 k1 k2 : ℕ) → 0 < r → no_more (parts 10000 (pos 1)) (expansion_at_15 (record { density = pos r; k0 = pos k0; k1 = pos k1; k2 = neg_ℤ (pos k2) })) ≡ nat_le (10000 * (r * r) + k2 * (r * r)) (100000000 * k0 + 1000000 * k1 * r)
-least_is r k0 k1 k2 o =
-    test_is (parts_worth 10000 1 (lit< tt)) (expansion_worth r k0 k1 k2 o)
-    ∙ same_test _ _ (10000 * (r * r) + k2 * (r * r)) (100000000 * k0 + 1000000 * k1 * r) (go (r * r) (100000000 * k0 + 1000000 * k1 * r) (k2 * (r * r))) (back (r * r) (100000000 * k0 + 1000000 * k1 * r) (k2 * (r * r)))
-  where
-    go : (s a b : ℕ) → 1 * (100000000 * s) + b * 10000 ≤ a * 10000 + 0 * (100000000 * s) → 10000 * s + b ≤ a
-    go s a b h = omega arith
-
-    back : (s a b : ℕ) → 10000 * s + b ≤ a → 1 * (100000000 * s) + b * 10000 ≤ a * 10000 + 0 * (100000000 * s)
-    back s a b h = omega arith
-
-pub most_is : (r k0 k1 k2 : ℕ) → 0 < r → no_more (expansion_at_15 (record { density = pos r; k0 = pos k0; k1 = pos k1; k2 = neg_ℤ (pos k2) })) (parts 1000 (pos 2)) ≡ nat_le (100000000 * k0 + 1000000 * k1 * r) (200000 * (r * r) + k2 * (r * r))
-most_is r k0 k1 k2 o =
-    test_is (expansion_worth r k0 k1 k2 o) (parts_worth 1000 2 (lit< tt))
-    ∙ same_test _ _ (100000000 * k0 + 1000000 * k1 * r) (200000 * (r * r) + k2 * (r * r)) (go (r * r) (100000000 * k0 + 1000000 * k1 * r) (k2 * (r * r))) (back (r * r) (100000000 * k0 + 1000000 * k1 * r) (k2 * (r * r)))
-  where
-    go : (s a b : ℕ) → a * 1000 + 0 * (100000000 * s) ≤ 2 * (100000000 * s) + b * 1000 → a ≤ 200000 * s + b
-    go s a b h = omega arith
-
-    back : (s a b : ℕ) → a ≤ 200000 * s + b → a * 1000 + 0 * (100000000 * s) ≤ 2 * (100000000 * s) + b * 1000
-    back s a b h = omega arith
-
--- the program's two tests, one after the other
-pub both_tested : (r k0 k1 k2 : ℕ) → 0 < r → 10000 * (r * r) + k2 * (r * r) ≤ 100000000 * k0 + 1000000 * k1 * r
-    → nat_le (100000000 * k0 + 1000000 * k1 * r) (200000 * (r * r) + k2 * (r * r)) ≡ expansive (record { density = pos r; k0 = pos k0; k1 = pos k1; k2 = neg_ℤ (pos k2) })
-both_tested r k0 k1 k2 o h =
-    rw (least_is r k0 k1 k2 o, most_is r k0 k1 k2 o) (go _ _ (let s : leb (10000 * (r * r) + k2 * (r * r)) (100000000 * k0 + 1000000 * k1 * r) ≡ true = grind (arith, nat_tests) in s))
-  where
-    go : (a b : Bool) → a ≡ true → b ≡ (a && b)
-    go a b e = rw e refl
-
-pub first_tested : (r k0 k1 k2 : ℕ) → 0 < r → 100000000 * k0 + 1000000 * k1 * r < 10000 * (r * r) + k2 * (r * r)
-    → nat_le (10000 * (r * r) + k2 * (r * r)) (100000000 * k0 + 1000000 * k1 * r) ≡ expansive (record { density = pos r; k0 = pos k0; k1 = pos k1; k2 = neg_ℤ (pos k2) })
-first_tested r k0 k1 k2 o h =
-    rw (least_is r k0 k1 k2 o) (go _ _ (let s : leb (10000 * (r * r) + k2 * (r * r)) (100000000 * k0 + 1000000 * k1 * r) ≡ false = grind (arith, nat_tests) in s))
-  where
-    go : (a b : Bool) → a ≡ false → a ≡ (a && b)
-    go a b e = rw e refl
-
--- the place of b, where the four figures are in range
-fifth : (a b c d x : Bool) → a ≡ true → b ≡ true → c ≡ true → d ≡ true → ◌≡◌ {A = ℕ} (cond a (cond b (cond c (cond d (cond x 0 5) 4) 3) 2) 1) (cond x 0 5)
-fifth a b c d x e f g h = rw (e, f, g, h) refl
-
-pub place_is : (d k0 k1 k2 : ℤ) (r n0 n1 n2 : ℕ) (x : Bool) → between (pos 60000) (pos 120000) d ≡ true → between (pos 0) (pos 30000000) k0 ≡ true → between (pos 0) (pos 10000) k1 ≡ true → between (negsuc 339999) (pos 0) k2 ≡ true
-    → d ≡ pos r → k0 ≡ pos n0 → k1 ≡ pos n1 → k2 ≡ neg_ℤ (pos n2) → x ≡ expansive (record { density = pos r; k0 = pos n0; k1 = pos n1; k2 = neg_ℤ (pos n2) })
-    → exponential_place (record { density = d; k0 = k0; k1 = k1; k2 = k2 }) ≡ cond x 0 5
-place_is d k0 k1 k2 r n0 n1 n2 x a b c e f g h i j =
-    fifth (between (pos 60000) (pos 120000) d) (between (pos 0) (pos 30000000) k0) (between (pos 0) (pos 10000) k1) (between (negsuc 339999) (pos 0) k2)
-    (expansive (record { density = d; k0 = k0; k1 = k1; k2 = k2 })) a b c e
-    ∙ (let z : expansive (record { density = d; k0 = k0; k1 = k1; k2 = k2 }) ≡ x = rw (f, g, h, i) (sym j) in ap (λ (y : Bool). cond {A = ℕ} y 0 5) z)

@@ -16,7 +16,7 @@ falling size = (terms size 9).even - (terms size 9).odd
 
 -- b times 10⁸r², where r is in 0.01 kg/m³
 unfoldable pub slope : Exponential → ℕ
-slope l = (100000000 * l.k0 + 1000000 * l.k1 * l.density) - l.minus_k2 * (l.density * l.density)
+slope l = (100000000 * l.coefficients.k0 + 1000000 * l.coefficients.k1 * l.density.hundredths) - l.coefficients.minus_k2 * (l.density.hundredths * l.density.hundredths)
 
 -- the distance from 15 °C
 abbrev pub away : ℕ → ℕ
@@ -24,7 +24,7 @@ away n = (n - 2500) + (2500 - n)
 
 -- the size of bΔ, and of 0.8(bΔ)²
 unfoldable pub straight : Exponential → ℕ → ℕ
-straight l n = (100 * slope l * away n) / (l.density * l.density)
+straight l n = (100 * slope l * away n) / (l.density.hundredths * l.density.hundredths)
 
 unfoldable pub bent : ℕ → ℕ
 bent y = (4 * y * y) / 5000000000000
@@ -36,22 +36,27 @@ thermal_units l n = cond (nat_le 2500 n) (falling (straight l n + bent (straight
 -- The part of the compression's exponent that is over r², and the part that is not. Their constants are the formula's, moved by
 -- the 1,000 hundredths that temperatures are raised by: 8,709,600,000 − 420,920·1,000, and 16,208,000,000 + 21,592·1,000.
 unfoldable pub over_density_lem : Exponential → ℕ → ℕ
-over_density_lem l n = (1000000000000 * (8288680000 + 420920 * n)) / (l.density * l.density)
+over_density_lem l n = (1000000000000 * (8288680000 + 420920 * n)) / (l.density.hundredths * l.density.hundredths)
 
 unfoldable pub beside_density_lem : ℕ → ℕ
 beside_density_lem n = 100 * (16229592000 - 21592 * n)
 
--- 1 − gP, with 10⁶·gP the exponential of their difference, times p
-unfoldable pub elastic_rising_lem : ℕ → ℕ → ℕ
-elastic_rising_lem size p = (1000000000000000000 - rising size * p) / 1000000
+-- 1,000·g, the exponential of their difference
+unfoldable pub compressibility_units : Exponential → ℕ → ℕ
+compressibility_units l n =
+    cond (nat_le (beside_density_lem n) (over_density_lem l n)) (rising (over_density_lem l n - beside_density_lem n)) (falling (beside_density_lem n - over_density_lem l n))
 
-unfoldable pub elastic_falling_lem : ℕ → ℕ → ℕ
-elastic_falling_lem size p = (1000000000000000000 + (terms size 9).odd * p - (terms size 9).even * p) / 1000000
+-- 1 − gP, with 10⁶·gP the exponential of their difference, times p
+unfoldable pub elastic_rising : ℕ → ℕ → ℕ
+elastic_rising size p = (1000000000000000000 - rising size * p) / 1000000
+
+unfoldable pub elastic_falling : ℕ → ℕ → ℕ
+elastic_falling size p = (1000000000000000000 + (terms size 9).odd * p - (terms size 9).even * p) / 1000000
 
 unfoldable pub elastic_units : Exponential → ℕ → ℕ → ℕ
 elastic_units l n p =
-    cond (nat_le (beside_density_lem n) (over_density_lem l n)) (elastic_rising_lem (over_density_lem l n - beside_density_lem n) p)
-    (elastic_falling_lem (beside_density_lem n - over_density_lem l n) p)
+    cond (nat_le (beside_density_lem n) (over_density_lem l n)) (elastic_rising (over_density_lem l n - beside_density_lem n) p)
+    (elastic_falling (beside_density_lem n - over_density_lem l n) p)
 
 -- the carry factor in steps, rounded down
 unfoldable pub carried : Exponential → ℕ → ℕ → ℕ → ℕ → ℕ

@@ -46,20 +46,20 @@ close_near {d} {p} {m} {x} a s l c =
     go p m b h = let e : p ≡ (p - m) + m = omega arith in let f : p * b ≡ ((p - m) + m) * b = rw (← e) refl in omega arith
 
 -- b is the slope over 10⁸r²
-slope_is : (l : Exponential) → slope l + l.minus_k2 * (l.density * l.density) ≡ 100000000 * l.k0 + 1000000 * l.k1 * l.density
+slope_is : (l : Exponential) → slope l + l.coefficients.minus_k2 * (l.density.hundredths * l.density.hundredths) ≡ 100000000 * l.coefficients.k0 + 1000000 * l.coefficients.k1 * l.density.hundredths
 unfolding slope
 slope_is l = omega (arith, l.least)
 
-pub slope_most : (l : Exponential) → slope l ≤ 200000 * (l.density * l.density)
+pub slope_most : (l : Exponential) → slope l ≤ 200000 * (l.density.hundredths * l.density.hundredths)
 unfolding slope
 slope_most l = omega (arith, l.most)
 
-density_positive : (l : Exponential) → 0 < l.density
-density_positive l = omega (arith, l.dense.0)
+density_positive : (l : Exponential) → 0 < l.density.hundredths
+density_positive l = omega (arith, l.density.ranged.0)
 
-slope_worth : (l : Exponential) → Worth (expansion_at_15 (figures l)) (slope l) 0 (100000000 * (l.density * l.density))
+slope_worth : (l : Exponential) → Worth (expansion_at_15 (figures l)) (slope l) 0 (100000000 * (l.density.hundredths * l.density.hundredths))
 slope_worth l =
-    worth_of (expansion_worth l.density l.k0 l.k1 l.minus_k2 (density_positive l)) (omega (arith, mul-pos (density_positive l) (density_positive l))) (go (slope l) (l.minus_k2 * (l.density * l.density)) (100000000 * l.k0 + 1000000 * l.k1 * l.density) (100000000 * (l.density * l.density)) (slope_is l))
+    worth_of (expansion_worth l.density.hundredths l.coefficients.k0 l.coefficients.k1 l.coefficients.minus_k2 (density_positive l)) (omega (arith, mul-pos (density_positive l) (density_positive l))) (go (slope l) (l.coefficients.minus_k2 * (l.density.hundredths * l.density.hundredths)) (100000000 * l.coefficients.k0 + 1000000 * l.coefficients.k1 * l.density.hundredths) (100000000 * (l.density.hundredths * l.density.hundredths)) (slope_is l))
   where
     go : (s m a b : ℕ) → s + m ≡ a → a * b + 0 * b ≡ s * b + m * b
     go s m a b h = rw (← h) (omega arith)
@@ -143,13 +143,13 @@ straight_n y c a b o h k =
     let t : y * b ≤ 20000000 * a * b = omega arith in
     le_of_mul-le-mul_right t o
 
-pub bent_is : (l : Exponential) (n : ℕ) → Bent l n (straight l n) (bent (straight l n)) (slope l * away n) (10000000000 * (l.density * l.density))
+pub bent_is : (l : Exponential) (n : ℕ) → Bent l n (straight l n) (bent (straight l n)) (slope l * away n) (10000000000 * (l.density.hundredths * l.density.hundredths))
 unfolding straight bent
 bent_is l n =
     let o = mul-pos (density_positive l) (density_positive l) in
-    let f = floor_under (100 * slope l * away n) (l.density * l.density) o in
+    let f = floor_under (100 * slope l * away n) (l.density.hundredths * l.density.hundredths) o in
     let g = floor_under (4 * straight l n * straight l n) 5000000000000 (lit< tt) in
-    let t = go (straight l n) (slope l) (away n) (l.density * l.density) o (slope_most l) f.0 (omega (arith, f.1)) in
+    let t = go (straight l n) (slope l) (away n) (l.density.hundredths * l.density.hundredths) o (slope_most l) f.0 (omega (arith, f.1)) in
     record { under = t.0; over = t.1; straight_most = t.2; bent_under = g.0; bent_over = omega (arith, g.1) }
   where
     go : (y c a b : ℕ) → 0 < b → c ≤ 200000 * b → y * b ≤ 100 * c * a → 100 * c * a ≤ y * b + b
@@ -205,10 +205,10 @@ unfolding thermal
 thermal_warm l t n h k i =
     let b = bent_is l n in
     let m : straight l n ≤ 70000000000 = omega (arith, b.straight_most) in
-    let w = warm_worth (figures l) t n (away n) (slope l) (l.density * l.density) (omega arith) i (slope_worth l) in
-    let s = near_warm (straight l n) (bent (straight l n)) (slope l * away n) (10000000000 * (l.density * l.density)) m b.under b.over b.bent_under b.bent_over in
+    let w = warm_worth (figures l) t n (away n) (slope l) (l.density.hundredths * l.density.hundredths) (omega arith) i (slope_worth l) in
+    let s = near_warm (straight l n) (bent (straight l n)) (slope l * away n) (10000000000 * (l.density.hundredths * l.density.hundredths)) m b.under b.over b.bent_under b.bent_over in
     thermal_falling (neg (mul (expanded (figures l) t) (add (nat 1) (mul (parts 10 (pos 8)) (expanded (figures l) t))))) (straight l n + bent (straight l n)) (warm_most (straight l n) (bent (straight l n)) m b.bent_under)
-    (record { top = slope l * away n * (10 * (10000000000 * (l.density * l.density)) + 8 * (slope l * away n)); bottom = 10000000000 * (l.density * l.density) * (10 * (10000000000 * (l.density * l.density))); worth = bend_warm (expanded (figures l) t) (slope l * away n) (10000000000 * (l.density * l.density)) w; least = s.0; most = s.1 })
+    (record { top = slope l * away n * (10 * (10000000000 * (l.density.hundredths * l.density.hundredths)) + 8 * (slope l * away n)); bottom = 10000000000 * (l.density.hundredths * l.density.hundredths) * (10 * (10000000000 * (l.density.hundredths * l.density.hundredths))); worth = bend_warm (expanded (figures l) t) (slope l * away n) (10000000000 * (l.density.hundredths * l.density.hundredths)) w; least = s.0; most = s.1 })
 
 -- below 15 °C, where 8N ≤ 10M
 cold_room : (y N M : ℕ) → y ≤ 70000000000 → 1000000000000 * N ≤ y * M + M → 8 * N ≤ 10 * M
@@ -219,13 +219,13 @@ unfolding thermal
 thermal_cold l t n h i =
     let b = bent_is l n in
     let m : straight l n ≤ 50000000000 = omega (arith, b.straight_most) in
-    let w = cold_worth (figures l) t n (away n) (slope l) (l.density * l.density) (omega arith) i (slope_worth l) in
+    let w = cold_worth (figures l) t n (away n) (slope l) (l.density.hundredths * l.density.hundredths) (omega arith) i (slope_worth l) in
     let less : bent (straight l n) ≤ straight l n = cold_less (straight l n) (bent (straight l n)) (omega arith) b.bent_under in
-    let room = cold_room (straight l n) (slope l * away n) (10000000000 * (l.density * l.density)) (omega arith) b.over in
-    let is : (10 * (10000000000 * (l.density * l.density)) - 8 * (slope l * away n)) + 8 * (slope l * away n) ≡ 10 * (10000000000 * (l.density * l.density)) = omega arith in
-    let s = near_cold (straight l n) (bent (straight l n)) (straight l n - bent (straight l n)) (slope l * away n) (10000000000 * (l.density * l.density)) (10 * (10000000000 * (l.density * l.density)) - 8 * (slope l * away n)) (omega arith) (omega arith) is b.under b.over b.bent_under b.bent_over in
+    let room = cold_room (straight l n) (slope l * away n) (10000000000 * (l.density.hundredths * l.density.hundredths)) (omega arith) b.over in
+    let is : (10 * (10000000000 * (l.density.hundredths * l.density.hundredths)) - 8 * (slope l * away n)) + 8 * (slope l * away n) ≡ 10 * (10000000000 * (l.density.hundredths * l.density.hundredths)) = omega arith in
+    let s = near_cold (straight l n) (bent (straight l n)) (straight l n - bent (straight l n)) (slope l * away n) (10000000000 * (l.density.hundredths * l.density.hundredths)) (10 * (10000000000 * (l.density.hundredths * l.density.hundredths)) - 8 * (slope l * away n)) (omega arith) (omega arith) is b.under b.over b.bent_under b.bent_over in
     thermal_rising (neg (mul (expanded (figures l) t) (add (nat 1) (mul (parts 10 (pos 8)) (expanded (figures l) t))))) (straight l n - bent (straight l n)) (omega arith)
-    (record { top = slope l * away n * (10 * (10000000000 * (l.density * l.density)) - 8 * (slope l * away n)); bottom = 10000000000 * (l.density * l.density) * (10 * (10000000000 * (l.density * l.density))); worth = bend_cold (expanded (figures l) t) (slope l * away n) (10000000000 * (l.density * l.density)) (10 * (10000000000 * (l.density * l.density)) - 8 * (slope l * away n)) is w; least = s.0; most = s.1 })
+    (record { top = slope l * away n * (10 * (10000000000 * (l.density.hundredths * l.density.hundredths)) - 8 * (slope l * away n)); bottom = 10000000000 * (l.density.hundredths * l.density.hundredths) * (10 * (10000000000 * (l.density.hundredths * l.density.hundredths))); worth = bend_cold (expanded (figures l) t) (slope l * away n) (10000000000 * (l.density.hundredths * l.density.hundredths)) (10 * (10000000000 * (l.density.hundredths * l.density.hundredths)) - 8 * (slope l * away n)) is w; least = s.0; most = s.1 })
 
 pub warm_units : (l : Exponential) (n : ℕ) → 2500 ≤ n → thermal_units l n ≡ falling (straight l n + bent (straight l n))
 unfolding thermal_units
@@ -249,5 +249,8 @@ pub bent_less : (y : ℕ) → y ≤ 70000000000 → bent y ≤ y
 unfolding bent
 bent_less y h = let g = floor_under (4 * y * y) 5000000000000 (lit< tt) in cold_less y (bent y) h g.0
 
-pub thermal_range : (l : Exponential) (n : ℕ) → n ≤ 6000 → (926000000000 ≤ thermal_units l n) × (thermal_units l n ≤ 1053000000000)
-thermal_range l n h = let t = thermal_is l (pos n -ℤ pos 1000) n h (omega (arith, ints)) in (t.least, t.most)
+pub warm_range : (l : Exponential) (n : ℕ) → 2500 ≤ n → n ≤ 6000 → (926000000000 ≤ falling (straight l n + bent (straight l n))) × (falling (straight l n + bent (straight l n)) ≤ 1053000000000)
+warm_range l n h k = let t = thermal_warm l (pos n -ℤ pos 1000) n h k (omega (arith, ints)) in (t.least, t.most)
+
+pub cold_range : (l : Exponential) (n : ℕ) → n < 2500 → (926000000000 ≤ rising (straight l n - bent (straight l n))) × (rising (straight l n - bent (straight l n)) ≤ 1053000000000)
+cold_range l n h = let t = thermal_cold l (pos n -ℤ pos 1000) n h (omega (arith, ints)) in (t.least, t.most)

@@ -1,6 +1,7 @@
 // Petroleum liquids, whose density goes exponentially with temperature.
 #![tactic(auto)]
 
-pub mod carrying;
+pub mod coefficients;
 pub mod exponential;
-pub mod opening;
+mod units;
+pub mod worked;

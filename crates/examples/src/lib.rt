@@ -45,25 +45,16 @@ mod passes {
 
     #[test]
     fn times_that_differ_by_more_are_denied(rt: HostRuntime) -> Result<(), Fail> {
-        match Meter::count(&timed(2_000, 9_994_999, 10_000_000)) {
-            Ok(_) => Err(Fail::new("taken")),
-            Err(d) => {
-                assert_eq!(rt; d.number(), 4);
-                assert_eq!(rt; d, Denial::Meter(Field::PulseTime));
-                Ok(())
-            }
-        }
+        let denial = Meter::count(&timed(2_000, 9_994_999, 10_000_000)).err();
+        assert_eq!(rt; denial, Some(Denial::Meter(Field::PulseTime)));
+        assert_eq!(rt; denial.map(|d| d.number()), Some(4));
+        Ok(())
     }
 
     #[test]
     fn a_factor_out_of_range_is_denied_by_its_place(rt: HostRuntime) -> Result<(), Fail> {
-        match MasterMeter::open(9_999_999) {
-            Ok(_) => Err(Fail::new("opened")),
-            Err(d) => {
-                assert_eq!(rt; d, Denial::Figure(1));
-                Ok(())
-            },
-        }
+        assert_eq!(rt; MasterMeter::open(9_999_999).err(), Some(Denial::Figure(1)));
+        Ok(())
     }
 
     #[test]
@@ -92,7 +83,8 @@ mod provers {
     use reference::reference::Reference;
     use sheet::figures::Sheet;
     use std::test::Fail;
-    use vessel::provers::PipeProver;
+    use vessel::pipe::PipeProver;
+    use vessel::section::SectionFigures;
     use vessel::vessel::Vessel;
 
     // A pass at 12.38 °C and 250 kPa.
@@ -112,9 +104,19 @@ mod provers {
         }
     }
 
+    // The measuring section of a prover.
+    fn section() -> SectionFigures {
+        SectionFigures {
+            volume: 11_920_130,
+            bore: 4_000,
+            wall: 100,
+            modulus: 210_000,
+        }
+    }
+
     #[test]
     fn a_pipe_prover_that_was_calibrated_in_the_field(rt: HostRuntime) -> Result<(), Fail> {
-        let prover = PipeProver::open(11_920_130, 4_000, 100, 210_000, 1_120)?;
+        let prover = PipeProver::open(&section(), 1_120)?;
         let volume = prover.ask(&cold())?;
         assert_eq!(rt; volume.low, 11_917_617_171);
         assert_eq!(rt; volume.high, 11_917_617_172);
@@ -136,7 +138,7 @@ mod provers {
 
     #[test]
     fn a_whole_pass_against_a_prover(rt: HostRuntime) -> Result<(), Fail> {
-        let vessel = PipeProver::open(11_920_130, 4_000, 100, 210_000, 1_120)?;
+        let vessel = PipeProver::open(&section(), 1_120)?;
         let liquid = Linear::open(850, 750)?;
         let meter = Meter::open(100_000_000)?;
         let s = Sheet::against(&meter, &Prover { vessel, liquid }, &cold())?;
@@ -167,14 +169,10 @@ mod statistics {
             high: 40_000,
         };
         let rows = [none, two, four, two, two];
-        match point::<Correction>(&rows) {
-            Some(found) => {
-                assert_eq!(rt; found.mean.low, 20_000);
-                assert_eq!(rt; found.scatter.low, 14_142);
-                assert_eq!(rt; found.random.high, 17_559);
-                Ok(())
-            }
-            None => Err(Fail::new("no point")),
-        }
+        let found = point::<Correction>(&rows).ok_or(Fail::new("no point"))?;
+        assert_eq!(rt; found.mean.low, 20_000);
+        assert_eq!(rt; found.scatter.low, 14_142);
+        assert_eq!(rt; found.random.high, 17_559);
+        Ok(())
     }
 }

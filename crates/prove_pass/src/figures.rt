@@ -4,7 +4,9 @@ ghost use Rattle.std.specs.Prelude.{◌≡◌, ℕ, length};
 use liquid::linear::Linear;
 use pass::denials::Denial;
 use petroleum::exponential::Exponential;
-use vessel::provers::{CompactProver, PipeProver};
+use vessel::compact::CompactProver;
+use vessel::pipe::PipeProver;
+use vessel::section::SectionFigures;
 
 /// What is opened from figures that follow one another in a line.
 pub trait FromFigures: Sized + Drop {
@@ -28,7 +30,13 @@ impl FromFigures for PipeProver {
         let &[volume, bore, wall, modulus, expansion] = figures else {
             unreachable!();
         };
-        PipeProver::open(volume, bore, wall, modulus, expansion)
+        let section = SectionFigures {
+            volume,
+            bore,
+            wall,
+            modulus,
+        };
+        PipeProver::open(&section, expansion)
     }
 }
 
@@ -41,7 +49,13 @@ impl FromFigures for CompactProver {
         let &[volume, bore, wall, modulus, area_expansion, rod_expansion] = figures else {
             unreachable!();
         };
-        CompactProver::open(volume, bore, wall, modulus, area_expansion, rod_expansion)
+        let section = SectionFigures {
+            volume,
+            bore,
+            wall,
+            modulus,
+        };
+        CompactProver::open(&section, area_expansion, rod_expansion)
     }
 }
 

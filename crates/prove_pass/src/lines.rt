@@ -23,5 +23,5 @@ pub fn figures_and_record(numbers: &[i32], figures: usize) -> Option<(&[i32], Re
     ensures { MatchOption result (length numbers.now ≢ figures + 11) (λ l. (l.0.now ≡ take figures numbers.now) × (length l.0.now ≡ figures) × InOrder l.1 (drop figures numbers.now)) }
 {
     let (front, fields) = numbers.split_at_checked(figures)?;
-    Some((front, Record::of(fields)?))
+    Some((front, Record::try_from(fields).ok()?))
 }

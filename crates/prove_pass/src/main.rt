@@ -28,7 +28,8 @@ use petroleum::exponential::Exponential;
 use point::figures::Point;
 use ranges::{point_of, range_of};
 use std::alloc::{AllocError, Global};
-use vessel::provers::{CompactProver, PipeProver};
+use vessel::compact::CompactProver;
+use vessel::pipe::PipeProver;
 use work::{against_master, against_prover, carry_of, volume_of};
 
 /// The answer to a line, by its word and its numbers.

@@ -142,7 +142,7 @@ impl fmt::Display for Refusal {
                     Denial::Value => write!(f, "denied {number}"),
                 }
             }
-            Refusal::Faulted(field) => write!(f, "fault field {}", field.number()),
+            Refusal::Faulted(field) => write!(f, "fault field {}", u8::from(*field)),
         }
     }
 }

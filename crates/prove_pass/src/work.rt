@@ -27,7 +27,7 @@ pub fn volume_of<V: Vessel + FromFigures>(numbers: &[i32]) -> Answered {
 /// The carry factor of a liquid in a pass.
 pub fn carry_of<L: Liquid + FromFigures>(numbers: &[i32]) -> Answered {
     let (liquid, pass) = opened_and_record::<L>(numbers)?;
-    Ok(Answer::Carry(liquid.ask(&Question::of(&pass))?))
+    Ok(Answer::Carry(liquid.ask(&Question::from(&pass))?))
 }
 
 /// A pass against a master meter.
@@ -60,7 +60,7 @@ pub fn against_prover<V: Vessel + FromFigures, L: Liquid + FromFigures>(
     let meter = Meter::open(*set_factor)?;
     let sheet = Sheet::against(&meter, &prover, &pass)?;
     let volume = prover.vessel.ask(&pass)?;
-    let factor = prover.liquid.ask(&Question::of(&pass))?;
+    let factor = prover.liquid.ask(&Question::from(&pass))?;
     Ok(Answer::Proving(Proving {
         volume,
         factor,

@@ -1,5 +1,5 @@
 -- How far apart the ends of S, S0 and ε are, in whole numbers.
-use Rattle.std.proofs.Common.{◌≡◌, ℕ, suc, ◌+◌, ◌-◌, ◌*◌, ◌/◌, ◌<◌, ◌≤◌, List, [], ◌∷◌, length, sum_by, mul-le-mul_right, mul-le-mul, mul-le-mul_left, mul-pos, le_of_mul-le-mul_right, arith}
+use Rattle.std.proofs.Common.{◌≡◌, ℕ, suc, ◌+◌, ◌-◌, ◌*◌, ◌<◌, ◌≤◌, List, [], ◌∷◌, length, sum_by, mul-le-mul_right, mul-le-mul, mul-le-mul_left, mul-pos, le_of_mul-le-mul_right, arith}
 use native.Mathlib.Decide.{dec_le}
 use native.Mathlib.Nat.{le_of_mul-le-mul_left}
 use Rattle.std.specs.List.{AllByRecursion}
@@ -157,22 +157,7 @@ of_mean_narrow n D E l H x X o p r h d f u v g =
     wide : (s B T : ℕ) → T ≤ ((s + 400) * (s + 400 + 100)) * B → T ≤ ((s + 450) * (s + 450)) * B
     wide s B T i = let j : ((s + 400) * (s + 400 + 100)) * B ≤ ((s + 450) * (s + 450)) * B = mul-le-mul_right B (omega arith) in omega arith
 
--- the ends stay in order
-nearest_farthest : (a A p P : ℕ) → a ≤ A → p ≤ P → nearest a A p P ≤ farthest a A p P
-nearest_farthest a A p P h k = omega arith
-
-sums_ordered : (k : Kind) (es : List Ends) (p P : ℕ) → p ≤ P → AllByRecursion (Fits k) es → sum_by (nearest² k p P) es ≤ sum_by (farthest² k p P) es
-sums_ordered k [] p P h f = omega arith
-sums_ordered k (e ∷ es) p P h f =
-    let r = level_range k e f.0 in
-    let one = square_mono _ _ (nearest_farthest (raised k e.low) (raised k e.high) p P r.3 h) in
-    let l = sum_by-cons (nearest² k p P) e es in
-    let m = sum_by-cons (farthest² k p P) e es in
-    omega (arith, sums_ordered k es p P h f.1)
-
-pub spread_ordered : (k : Kind) (es : List Ends) (p P : ℕ) → p ≤ P → AllByRecursion (Fits k) es → (D E : ℕ) → D ≡ sum_by (nearest² k p P) es → E ≡ sum_by (farthest² k p P) es → D ≤ E
-spread_ordered k es p P h f D E d e = omega (arith, sums_ordered k es p P h f)
-
+-- the ends of a root stay in order
 pub root_ordered : (l H P x X D E : ℕ) → 0 < P → 90000000 ≤ x → x ≤ X → D ≤ E → (l * l) * (P * (X * X)) ≤ D * 10000000000000000 → E * 10000000000000000 ≤ (H * H) * (P * (x * x)) → l ≤ H
 root_ordered l H P x X D E o p h d u v =
     let a : (H * H) * (P * (x * x)) ≤ (H * H) * (P * (X * X)) = mul-le-mul_left (H * H) (mul-le-mul_left P (square_mono x X h)) in
@@ -180,15 +165,3 @@ root_ordered l H P x X D E o p h d u v =
     let b : 0 < P * (X * X) = mul-pos o (mul-pos i i) in
     let c : (l * l) * (P * (X * X)) ≤ (H * H) * (P * (X * X)) = omega arith in
     root_le l H (le_of_mul-le-mul_right c b)
-
--- ε from S0 between s and S: t·s/1000 rounded down, t·S/1000 rounded up
-pub random_narrow : (t s S : ℕ) → t ≤ 2776 → s ≤ S → S ≤ s + 520 → S ≤ 14000520
-    → ((t * s / 1000 ≤ (t * S + 999) / 1000) × ((t * S + 999) / 1000 ≤ 40000000) × ((t * S + 999) / 1000 ≤ t * s / 1000 + 1450)) × ((t * s / 1000 * 1000 ≤ t * s) × (t * S ≤ (t * S + 999) / 1000 * 1000))
-random_narrow t s S a h k m =
-    let u : t * s ≤ t * S = mul-le-mul_left t h in
-    let v : t * S ≤ t * (s + 520) = mul-le-mul_left t k in
-    let w : t * S ≤ 2776 * 14000520 = mul-le-mul a m in
-    ((omega arith, omega arith, omega arith), (omega arith, omega arith))
-
-pub random_most : (t S : ℕ) → t ≤ 2776 → S ≤ 14000520 → t * S ≤ 38865443520
-random_most t S a m = let w : t * S ≤ 2776 * 14000520 = mul-le-mul a m in w

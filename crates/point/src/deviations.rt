@@ -40,7 +40,6 @@ pub(crate) fn spread<V: Statistic>(rows: &[Ends], mean: Level) -> Bounds
     requires fits { AllByRecursion (Fits V.Value.kind) rows.now }
     ensures low { result.low ≡ sum_by (nearest² V.Value.kind mean.low mean.high) rows.now }
     ensures high { result.high ≡ sum_by (farthest² V.Value.kind mean.low mean.high) rows.now }
-    ensures ordered { result.low ≤ result.high }
     ensures small { (result.low ≤ length rows.now * 445679049876544) × (result.high ≤ length rows.now * 445679049876544) }
 {
     let mut low: u64 = 0;

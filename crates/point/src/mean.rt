@@ -11,7 +11,6 @@ ghost use Rattle.point.specs.Rows.{Fits, Held};
 use crate::bounds::Bounds;
 use crate::ends::Ends;
 use crate::level::Level;
-use crate::rounding::{rounded_down, rounded_up};
 use crate::statistic::Statistic;
 use exact::pair::Pair;
 
@@ -54,8 +53,8 @@ pub(crate) fn mean_level<V: Statistic>(rows: &[Ends]) -> Level
     let passes = rows.len() as u64;
     let sums = total::<V>(rows);
     Level {
-        low: rounded_down(sums.low, passes),
-        high: rounded_up(sums.high, passes),
+        low: sums.low / passes,
+        high: sums.high.div_ceil(passes),
     }
 }
 

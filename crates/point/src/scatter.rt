@@ -8,9 +8,7 @@ ghost use Rattle.point.specs.Deviations.{Deviates};
 
 use crate::bounds::Bounds;
 use crate::deviations::Deviations;
-use crate::pairing::{natural, paired};
 use crate::roots::{root_ceil, root_floor};
-use crate::rounding::{rounded_down, rounded_up};
 use crate::student::quantile;
 use exact::pair::Pair;
 
@@ -51,8 +49,7 @@ pub(crate) fn scattered(deviations: &Deviations) -> Pair
     ensures range { (pos 0 ≤ℤ result.low) × (result.high ≤ℤ pos 40001200) }
     ensures narrow { result.high ≤ℤ (result.low +ℤ pos 1200) }
 {
-    let root = relative_root(deviations, deviations.passes - 1);
-    paired(root.low, root.high)
+    relative_root(deviations, deviations.passes - 1).pair()
 }
 
 /// S0, in steps: the root of the squares over n·(n − 1), against the divisor.
@@ -62,8 +59,7 @@ pub(crate) fn mean_scatter(deviations: &Deviations) -> Pair
     ensures range { (pos 0 ≤ℤ result.low) × (result.high ≤ℤ pos 14000520) }
     ensures narrow { result.high ≤ℤ (result.low +ℤ pos 520) }
 {
-    let root = relative_root(deviations, deviations.passes * (deviations.passes - 1));
-    paired(root.low, root.high)
+    relative_root(deviations, deviations.passes * (deviations.passes - 1)).pair()
 }
 
 /// ε = t·S0, in steps.
@@ -75,9 +71,11 @@ pub(crate) fn random_limit(passes: usize, of_mean: Pair) -> Pair
     ensures range { (pos 0 ≤ℤ result.low) × (result.high ≤ℤ pos 40000000) }
     ensures narrow { result.high ≤ℤ (result.low +ℤ pos 1450) }
 {
-    let t = quantile(passes) as u64;
-    paired(
-        rounded_down(t * natural(of_mean.low), 1_000),
-        rounded_up(t * natural(of_mean.high), 1_000),
-    )
+    let t = u64::from(quantile(passes));
+    let ends = Bounds::of(of_mean);
+    let limit = Bounds {
+        low: t * ends.low / 1_000,
+        high: (t * ends.high).div_ceil(1_000),
+    };
+    limit.pair()
 }

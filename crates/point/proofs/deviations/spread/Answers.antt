@@ -5,7 +5,7 @@ use Rattle.std.proofs.lemmas.List.Sums.{sum_by_more}
 use Rattle.point.specs.declared.ends.Ends.{Ends}
 use Rattle.point.specs.Deviations.{nearest², farthest²}
 use Rattle.point.specs.Rows.{Fits}
-use Rattle.point.proofs.Widths.{spread_ordered}
+use Rattle.point.proofs.Naturals.{square_mono}
 use Rattle.point.proofs.deviations.spread.Goals as goal
 
 abbrev nil : Ends
@@ -18,19 +18,19 @@ pub loop-row-preserved : goal.loop-row-preserved
 loop-row-preserved g c =
     let low = sum_by_more (nearest² g.V.Value.kind c.args.mean.low c.args.mean.high) c.args.rows.now c.loop-row.row-index nil c.loop-row-test.true in
     let high = sum_by_more (farthest² g.V.Value.kind c.args.mean.low c.args.mean.high) c.args.rows.now c.loop-row.row-index nil c.loop-row-test.true in
-    let least : c.nearest-least.result * c.nearest-least.result ≤ 21111112 * 21111112 = mul-le-mul c.nearest-least.ensures.small c.nearest-least.ensures.small in
+    let ordered = square_mono c.nearest-least.result c.farthest-most.result (omega arith) in
     let most : c.farthest-most.result * c.farthest-most.result ≤ 21111112 * 21111112 = mul-le-mul c.farthest-most.ensures.small c.farthest-most.ensures.small in
-    (cc, cc, omega arith, omega arith)
+    record { low = cc; high = cc; ordered = omega arith; small = omega arith }
+
+pub invariant_of-result : goal.invariant_of-result
+invariant_of-result g c = record { ordered = c.loop-row.invariant.ordered }
 
 pub returns : goal.returns
 returns g c =
     let all = take_all c.loop-row.row-index c.args.rows.now c.loop-row-test.false in
-    let low = c.loop-row.invariant.0 ∙ ap (sum_by (nearest² g.V.Value.kind c.args.mean.low c.args.mean.high)) all in
-    let high = c.loop-row.invariant.1 ∙ ap (sum_by (farthest² g.V.Value.kind c.args.mean.low c.args.mean.high)) all in
     record {
-      low = low;
-      high = high;
-      ordered = spread_ordered g.V.Value.kind c.args.rows.now c.args.mean.low c.args.mean.high c.args.mean.ranged.1 c.requires.fits _ _ low high;
+      low = c.loop-row.invariant.low ∙ ap (sum_by (nearest² g.V.Value.kind c.args.mean.low c.args.mean.high)) all;
+      high = c.loop-row.invariant.high ∙ ap (sum_by (farthest² g.V.Value.kind c.args.mean.low c.args.mean.high)) all;
       small = (omega arith, omega arith);
     }
 

@@ -17,12 +17,15 @@ pub loop-row-preserved : goal.loop-row-preserved
 loop-row-preserved g c =
     let low = sum_by_more (λ e. raised g.V.Value.kind e.low) c.args.rows.now c.loop-row.row-index nil c.loop-row-test.true in
     let high = sum_by_more (λ e. raised g.V.Value.kind e.high) c.args.rows.now c.loop-row.row-index nil c.loop-row-test.true in
-    (cc, cc, omega arith, omega arith)
+    record { low = cc; high = cc; ordered = omega arith; small = omega arith }
+
+pub invariant_of-result : goal.invariant_of-result
+invariant_of-result g c = record { ordered = c.loop-row.invariant.ordered }
 
 pub returns : goal.returns
 returns g c =
     let all = take_all c.loop-row.row-index c.args.rows.now c.loop-row-test.false in
     record {
-      low = c.loop-row.invariant.0 ∙ ap (sum_by (λ e. raised g.V.Value.kind e.low)) all;
-      high = c.loop-row.invariant.1 ∙ ap (sum_by (λ e. raised g.V.Value.kind e.high)) all;
+      low = c.loop-row.invariant.low ∙ ap (sum_by (λ e. raised g.V.Value.kind e.low)) all;
+      high = c.loop-row.invariant.high ∙ ap (sum_by (λ e. raised g.V.Value.kind e.high)) all;
     }

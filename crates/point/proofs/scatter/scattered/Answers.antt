@@ -1,27 +1,24 @@
-use Rattle.std.proofs.Common.{◌-◌, arith}
+use Rattle.std.proofs.Common.{arith}
 use Rattle.std.proofs.lemmas.Int.{ints}
 use Rattle.exact.proofs.Pairs.{holds_ends}
 use Rattle.point.proofs.Scatters.{scatter_holds}
-use Rattle.point.proofs.Widths.{scatter_narrow, root_ordered}
+use Rattle.point.proofs.Widths.{scatter_narrow}
 use Rattle.point.proofs.scatter.scattered.Goals as goal
 
-pub paired-requires : goal.paired-requires
-paired-requires c =
+pub pair-requires : goal.pair-requires
+pair-requires c =
     let d = c.args.deviations.now in
-    let r = c.relative_root-root.result in
-    let e = c.relative_root-root.ensures in
+    let r = c.relative_root.result in
+    let e = c.relative_root.ensures in
     let near = scatter_narrow d.passes d.least d.most r.low r.high d.divisor.low d.divisor.high d.counted.0 d.divisor.ranged.0 d.divisor.ranged.1 d.divisor.narrow d.small.0 (c.requires 1000) e.under e.near_low e.near_high in
-    record {
-      ordered = root_ordered r.low r.high (d.passes - 1) d.divisor.low d.divisor.high d.least d.most (omega arith) d.divisor.ranged.0 d.divisor.ranged.1 d.ordered e.under e.over;
-      fits = omega (arith, near.0, near.1);
-    }
+    omega (arith, near.0, near.1)
 
 pub returns : goal.returns
 returns c =
     let d = c.args.deviations.now in
-    let r = c.relative_root-root.result in
-    let e = c.relative_root-root.ensures in
-    let p = c.paired.ensures in
+    let r = c.relative_root.result in
+    let e = c.relative_root.ensures in
+    let p = c.pair.ensures in
     let near = scatter_narrow d.passes d.least d.most r.low r.high d.divisor.low d.divisor.high d.counted.0 d.divisor.ranged.0 d.divisor.ranged.1 d.divisor.narrow d.small.0 (c.requires 1000) e.under e.near_low e.near_high in
     record {
       holds = λ k xs n h. holds_ends p.low p.high (scatter_holds k xs d.passes r.low r.high d.divisor.low d.divisor.high d.least d.most n (omega arith) (omega arith) e.under e.over h.over h.under h.floor h.top);

@@ -1,12 +1,12 @@
-// The mean of a point.
+// The mean of a point. The rows stay a plain slice, each made into a level as it is read; what they must meet is said once, by `Workable`.
 ghost use Rattle.std.specs.Prelude.{◌≡◌, ◌+◌, ◌*◌, ◌<◌, ◌≤◌, List, length, pos, ◌+ℤ◌, sum_by};
-ghost use Rattle.std.specs.List.{AllByRecursion};
 ghost use Rattle.exact.specs.Fractions.{Fraction};
 ghost use Rattle.exact.specs.Figures.{number};
 ghost use Rattle.exact.specs.Pairs.{Holds, steps};
 ghost use Rattle.point.specs.Points.{mean as exact_mean};
 ghost use Rattle.point.specs.Levels.{raise, raised, level as level_of};
 ghost use Rattle.point.specs.Rows.{Fits, Held};
+ghost use Rattle.point.specs.Outcomes.{Workable};
 
 use crate::bounds::Bounds;
 use crate::ends::Ends;
@@ -22,15 +22,14 @@ pub(crate) fn read<V: Statistic>(row: Ends) -> Level
 {
     let raise = V::raise();
     Level {
-        low: (row.low + raise) as u64,
-        high: (row.high + raise) as u64,
+        low: (row.low + raise).unsigned_abs(),
+        high: (row.high + raise).unsigned_abs(),
     }
 }
 
 /// The ends of the rows, near 1, added up.
 fn total<V: Statistic>(rows: &[Ends]) -> Bounds
-    requires few { length rows.now ≤ 20 }
-    requires fits { AllByRecursion (Fits V.Value.kind) rows.now }
+    requires { Workable V.Value.kind rows.now }
     ensures low { result.low ≡ sum_by (λ e. raised V.Value.kind e.low) rows.now }
     ensures high { result.high ≡ sum_by (λ e. raised V.Value.kind e.high) rows.now }
 {
@@ -46,8 +45,7 @@ fn total<V: Statistic>(rows: &[Ends]) -> Bounds
 
 /// The mean's pair near 1: the ends' means, rounded down and up.
 pub(crate) fn mean_level<V: Statistic>(rows: &[Ends]) -> Level
-    requires few { (5 ≤ length rows.now) × (length rows.now ≤ 20) }
-    requires fits { AllByRecursion (Fits V.Value.kind) rows.now }
+    requires { Workable V.Value.kind rows.now }
     ensures holds { (xs : List Fraction) → Held rows.now xs → Holds steps (pos result.low) (pos result.high) (number (level_of V.Value.kind (exact_mean xs))) }
 {
     let passes = rows.len() as u64;

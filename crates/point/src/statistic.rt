@@ -36,8 +36,8 @@ fn by_mean<V: RatioValue>(mean: Pair) -> Level
     ensures high { result.high ≡ unsigned_abs mean.high }
 {
     Level {
-        low: mean.low as u64,
-        high: mean.high as u64,
+        low: mean.low.unsigned_abs(),
+        high: mean.high.unsigned_abs(),
     }
 }
 

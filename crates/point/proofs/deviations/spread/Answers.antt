@@ -31,7 +31,7 @@ returns g c =
     record {
       low = c.loop-row.invariant.low ∙ ap (sum_by (nearest² g.V.Value.kind c.args.mean.low c.args.mean.high)) all;
       high = c.loop-row.invariant.high ∙ ap (sum_by (farthest² g.V.Value.kind c.args.mean.low c.args.mean.high)) all;
-      small = (omega arith, omega arith);
+      small = omega arith;
     }
 
 pub overflow_add-low : goal.overflow_add-low

@@ -3,32 +3,32 @@ use Rattle.std.proofs.lemmas.Int.{ints}
 use Rattle.exact.proofs.Pairs.{holds_ends}
 use Rattle.point.proofs.Scatters.{of_mean_holds}
 use Rattle.point.proofs.Widths.{of_mean_narrow}
-use Rattle.point.proofs.scatter.mean_scatter.Goals as goal
+use Rattle.point.proofs.scatter.Deviations.of_mean.Goals as goal
 
 pub relative_root-requires : goal.relative_root-requires
 relative_root-requires c =
-    let d = c.args.deviations.now in
+    let d = c.args.self in
     let fewer : d.passes - 1 ≤ 19 = omega arith in
     let most : d.passes * (d.passes - 1) ≤ 20 * 19 = mul-le-mul d.counted.1 fewer in
     (mul-pos (omega arith) (omega arith), most)
 
 pub pair-requires : goal.pair-requires
 pair-requires c =
-    let d = c.args.deviations.now in
+    let d = c.args.self in
     let r = c.relative_root.result in
     let e = c.relative_root.ensures in
-    let near = of_mean_narrow d.passes d.least d.most r.low r.high d.divisor.low d.divisor.high d.counted.0 d.divisor.ranged.0 d.divisor.ranged.1 d.divisor.narrow d.small.0 (c.requires 400) e.under e.near_low e.near_high in
+    let near = of_mean_narrow d.passes d.squares.low d.squares.high r.low r.high d.divisor.low d.divisor.high d.counted.0 d.divisor.ranged.0 d.divisor.ranged.1 d.divisor.narrow (omega arith) (d.narrow 400) e.under e.near_low e.near_high in
     omega (arith, near.0, near.1)
 
 pub returns : goal.returns
 returns c =
-    let d = c.args.deviations.now in
+    let d = c.args.self in
     let r = c.relative_root.result in
     let e = c.relative_root.ensures in
     let p = c.pair.ensures in
-    let near = of_mean_narrow d.passes d.least d.most r.low r.high d.divisor.low d.divisor.high d.counted.0 d.divisor.ranged.0 d.divisor.ranged.1 d.divisor.narrow d.small.0 (c.requires 400) e.under e.near_low e.near_high in
+    let near = of_mean_narrow d.passes d.squares.low d.squares.high r.low r.high d.divisor.low d.divisor.high d.counted.0 d.divisor.ranged.0 d.divisor.ranged.1 d.divisor.narrow (omega arith) (d.narrow 400) e.under e.near_low e.near_high in
     record {
-      holds = λ k xs n h. holds_ends p.low p.high (of_mean_holds k xs d.passes r.low r.high d.divisor.low d.divisor.high d.least d.most n (omega arith) (omega arith) e.under e.over h.over h.under h.floor h.top);
+      holds = λ k xs n h. holds_ends p.low p.high (of_mean_holds k xs d.passes r.low r.high d.divisor.low d.divisor.high d.squares.low d.squares.high n (omega arith) (omega arith) e.under e.over h.over h.under h.floor h.top);
       range = (omega (arith, ints), omega (arith, ints));
       narrow = omega (arith, ints);
     }

@@ -20,10 +20,9 @@ pub(crate) fn read<V: Statistic>(row: Ends) -> Level
     ensures low { result.low ≡ raised V.Value.kind row.low }
     ensures high { result.high ≡ raised V.Value.kind row.high }
 {
-    let raise = V::raise();
     Level {
-        low: (row.low + raise).unsigned_abs(),
-        high: (row.high + raise).unsigned_abs(),
+        low: (row.low + V::RAISE).unsigned_abs(),
+        high: (row.high + V::RAISE).unsigned_abs(),
     }
 }
 
@@ -61,9 +60,8 @@ pub(crate) fn lowered<V: Statistic>(level: Level) -> Pair
     ensures low { result.low +ℤ pos (raise V.Value.kind) ≡ pos level.low }
     ensures high { result.high +ℤ pos (raise V.Value.kind) ≡ pos level.high }
 {
-    let raise = V::raise();
     Pair {
-        low: level.low as i64 - raise,
-        high: level.high as i64 - raise,
+        low: level.low as i64 - V::RAISE,
+        high: level.high as i64 - V::RAISE,
     }
 }

@@ -8,6 +8,7 @@ const STUDENT: [u16; 16] = [
 ];
 
 /// Student's t at 0.95 for a number of passes, in thousandths.
+#[tactic(auto, using(crate::proofs::Tables::student_range))]
 pub(crate) fn quantile(passes: usize) -> u16
     requires { (5 ≤ passes) × (passes ≤ 20) }
     ensures value { result ≡ student passes }

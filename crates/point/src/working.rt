@@ -33,11 +33,7 @@ pub fn work<V: Statistic>(rows: &[Ends]) -> Point
 fn fitting<V: Statistic>(row: Ends) -> bool
     ensures { IsTrue result ↔ Fits V.Value.kind row }
 {
-    let range = V::range();
-    range.low <= row.low
-        && row.low <= row.high
-        && row.high <= range.high
-        && row.high - row.low <= 300
+    V::LEAST <= row.low && row.low <= row.high && row.high <= V::MOST && row.high - row.low <= 300
 }
 
 /// Whether every row fits its kind.

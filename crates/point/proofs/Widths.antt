@@ -5,7 +5,9 @@ use native.Mathlib.Nat.{le_of_mul-le-mul_left}
 use Rattle.std.specs.List.{AllByRecursion}
 use Rattle.std.proofs.lemmas.List.Sums.{sum_by-cons}
 use Rattle.pass.specs.Kinds.{Kind}
+use Rattle.point.specs.declared.bounds.Bounds.{Bounds}
 use Rattle.point.specs.declared.ends.Ends.{Ends}
+use Rattle.point.specs.declared.scatter.Deviations.{Deviations}
 use Rattle.point.specs.Levels.{raised}
 use Rattle.point.specs.Rows.{Fits}
 use Rattle.point.specs.Deviations.{nearest, farthest, nearest², farthest²}
@@ -121,41 +123,45 @@ mean_bottom n m Q o h =
     let b : n * (4 * 8100000000000000) ≤ n * (m * Q) = mul-le-mul_left n a in
     omega arith
 
+-- The ends of a root over P·x², where the lower one is below b: they differ by at most w + 1.
+root_narrow : (k e w b n P D E l H x X : ℕ) → 0 < k → 90000000 ≤ x → X ≤ x + 301
+    → D * 10000000000000000 < (b * b) * (P * (X * X)) → (n * (601 * 601)) * 10000000000000000 ≤ (k * k) * (P * (x * x))
+    → b * 603 ≤ e * 90000000 → ((s : ℕ) → (s + k) * (s + k + e) ≤ (s + w) * (s + w))
+    → ((s : ℕ) → (k * s) * E ≤ (k * (s + k)) * D + (s * (s + k)) * (n * (601 * 601)))
+    → (l * l) * (P * (X * X)) ≤ D * 10000000000000000 → D * 10000000000000000 < ((l + 1) * (l + 1)) * (P * (X * X))
+    → ((j : ℕ) → H ≡ j + 1 → (j * j) * (P * (x * x)) < E * 10000000000000000) → (l < b) × (H ≤ l + 1 + w)
+root_narrow k e w b n P D E l H x X o p h i j c q f u v g =
+    let few : l < b = root_bound l b P (X * X) (D * 10000000000000000) u i in
+    let cost = against_cost (l + 1) e x X b p h (omega arith) c in
+    let top = core (n * (601 * 601)) P (x * x) (X * X) k e (l + 1) D E 10000000000000000 o (omega arith) (omega arith) (f (l + 1)) j cost in
+    let wide = mul-le-mul_right (P * (x * x)) (q (l + 1)) in
+    (few, root_most H (l + 1 + w) (P * (x * x)) (E * 10000000000000000) (omega arith) g)
+
 -- S: the ends differ by at most 1,151
-pub scatter_narrow : (n D E l H x X : ℕ) → 5 ≤ n → 90000000 ≤ x → x ≤ X → X ≤ x + 301 → D ≤ n * 445679049876544
-    → ((s : ℕ) → (1000 * s) * E ≤ (1000 * (s + 1000)) * D + (s * (s + 1000)) * (n * (601 * 601)))
-    → (l * l) * ((n - 1) * (X * X)) ≤ D * 10000000000000000 → D * 10000000000000000 < ((l + 1) * (l + 1)) * ((n - 1) * (X * X))
-    → ((j : ℕ) → H ≡ j + 1 → (j * j) * ((n - 1) * (x * x)) < E * 10000000000000000) → (l < 40000000) × (H ≤ l + 1151)
-scatter_narrow n D E l H x X o p r h d f u v g =
-    let Q = square_bottom x p in
-    let R = square_bottom X (omega arith) in
-    let a = single_bottom (n - 1) (x * x) Q in
-    let b = single_bottom (n - 1) (X * X) R in
-    let few : l < 40000000 = root_bound l 40000000 (n - 1) (X * X) (D * 10000000000000000) u (omega arith) in
-    let cost = against_cost (l + 1) 300 x X 40000000 p h (omega arith) (omega arith) in
-    let top = core (n * (601 * 601)) (n - 1) (x * x) (X * X) 1000 300 (l + 1) D E 10000000000000000 (omega arith) (omega arith) (omega arith) (f (l + 1)) (omega arith) cost in
-    (few, omega (arith, root_most H (l + 1 + 1150) ((n - 1) * (x * x)) (E * 10000000000000000) (wide (l + 1) ((n - 1) * (x * x)) (E * 10000000000000000) top) g))
-  where
-    wide : (s B T : ℕ) → T ≤ ((s + 1000) * (s + 1000 + 300)) * B → T ≤ ((s + 1150) * (s + 1150)) * B
-    wide s B T i = let j : ((s + 1000) * (s + 1000 + 300)) * B ≤ ((s + 1150) * (s + 1150)) * B = mul-le-mul_right B (omega arith) in omega arith
+pub scatter_narrow : (d : Deviations) (r : Bounds)
+    → (r.low * r.low) * ((d.passes - 1) * (d.divisor.high * d.divisor.high)) ≤ d.squares.low * 10000000000000000
+    → d.squares.low * 10000000000000000 < ((r.low + 1) * (r.low + 1)) * ((d.passes - 1) * (d.divisor.high * d.divisor.high))
+    → ((j : ℕ) → r.high ≡ j + 1 → (j * j) * ((d.passes - 1) * (d.divisor.low * d.divisor.low)) < d.squares.high * 10000000000000000)
+    → (r.low < 40000000) × (r.high ≤ r.low + 1151)
+scatter_narrow d r u v g =
+    let a = single_bottom (d.passes - 1) _ (square_bottom d.divisor.low d.divisor.ranged.0) in
+    let b = single_bottom (d.passes - 1) _ (square_bottom d.divisor.high (omega arith)) in
+    let near = root_narrow 1000 300 1150 40000000 d.passes (d.passes - 1) d.squares.low d.squares.high r.low r.high d.divisor.low d.divisor.high
+    (omega arith) d.divisor.ranged.0 d.divisor.narrow (omega arith) (omega arith) (omega arith) (λ s. omega arith) (d.narrow 1000) u v g in
+    (near.0, omega (arith, near.1))
 
 -- S0: the ends differ by at most 451
-pub of_mean_narrow : (n D E l H x X : ℕ) → 5 ≤ n → 90000000 ≤ x → x ≤ X → X ≤ x + 301 → D ≤ n * 445679049876544
-    → ((s : ℕ) → (400 * s) * E ≤ (400 * (s + 400)) * D + (s * (s + 400)) * (n * (601 * 601)))
-    → (l * l) * ((n * (n - 1)) * (X * X)) ≤ D * 10000000000000000 → D * 10000000000000000 < ((l + 1) * (l + 1)) * ((n * (n - 1)) * (X * X))
-    → ((j : ℕ) → H ≡ j + 1 → (j * j) * ((n * (n - 1)) * (x * x)) < E * 10000000000000000) → (l < 14000000) × (H ≤ l + 451)
-of_mean_narrow n D E l H x X o p r h d f u v g =
-    let Q = square_bottom x p in
-    let R = square_bottom X (omega arith) in
-    let a = mean_bottom n (n - 1) (x * x) (omega arith) Q in
-    let b = mean_bottom n (n - 1) (X * X) (omega arith) R in
-    let few : l < 14000000 = root_bound l 14000000 (n * (n - 1)) (X * X) (D * 10000000000000000) u (omega arith) in
-    let cost = against_cost (l + 1) 100 x X 14000000 p h (omega arith) (omega arith) in
-    let top = core (n * (601 * 601)) (n * (n - 1)) (x * x) (X * X) 400 100 (l + 1) D E 10000000000000000 (omega arith) (omega arith) (omega arith) (f (l + 1)) (omega arith) cost in
-    (few, omega (arith, root_most H (l + 1 + 450) ((n * (n - 1)) * (x * x)) (E * 10000000000000000) (wide (l + 1) ((n * (n - 1)) * (x * x)) (E * 10000000000000000) top) g))
-  where
-    wide : (s B T : ℕ) → T ≤ ((s + 400) * (s + 400 + 100)) * B → T ≤ ((s + 450) * (s + 450)) * B
-    wide s B T i = let j : ((s + 400) * (s + 400 + 100)) * B ≤ ((s + 450) * (s + 450)) * B = mul-le-mul_right B (omega arith) in omega arith
+pub of_mean_narrow : (d : Deviations) (r : Bounds)
+    → (r.low * r.low) * ((d.passes * (d.passes - 1)) * (d.divisor.high * d.divisor.high)) ≤ d.squares.low * 10000000000000000
+    → d.squares.low * 10000000000000000 < ((r.low + 1) * (r.low + 1)) * ((d.passes * (d.passes - 1)) * (d.divisor.high * d.divisor.high))
+    → ((j : ℕ) → r.high ≡ j + 1 → (j * j) * ((d.passes * (d.passes - 1)) * (d.divisor.low * d.divisor.low)) < d.squares.high * 10000000000000000)
+    → (r.low < 14000000) × (r.high ≤ r.low + 451)
+of_mean_narrow d r u v g =
+    let a = mean_bottom d.passes (d.passes - 1) _ (omega arith) (square_bottom d.divisor.low d.divisor.ranged.0) in
+    let b = mean_bottom d.passes (d.passes - 1) _ (omega arith) (square_bottom d.divisor.high (omega arith)) in
+    let near = root_narrow 400 100 450 14000000 d.passes (d.passes * (d.passes - 1)) d.squares.low d.squares.high r.low r.high d.divisor.low d.divisor.high
+    (omega arith) d.divisor.ranged.0 d.divisor.narrow (omega arith) (omega arith) (omega arith) (λ s. omega arith) (d.narrow 400) u v g in
+    (near.0, omega (arith, near.1))
 
 -- the ends of a root stay in order
 pub root_ordered : (l H P x X D E : ℕ) → 0 < P → 90000000 ≤ x → x ≤ X → D ≤ E → (l * l) * (P * (X * X)) ≤ D * 10000000000000000 → E * 10000000000000000 ≤ (H * H) * (P * (x * x)) → l ≤ H

@@ -1,8 +1,8 @@
-use Rattle.point.proofs.RootBounds.{floor_times, times_floor}
+use Rattle.std.proofs.Math.Nat.{div-lt_iff_lt-mul, le-div_iff_mul-le}
 use Rattle.point.proofs.roots.root_floor.Goals as goal
 
 pub returns : goal.returns
 returns c = record {
-  under = floor_times c.args.top c.args.bottom _ c.requires c.isqrt.ensures.square_le;
-  near = times_floor c.args.top c.args.bottom _ c.requires c.isqrt.ensures.next_square_gt;
+  under = (le-div_iff_mul-le c.requires).0 c.isqrt.ensures.square_le;
+  near = (div-lt_iff_lt-mul c.requires).0 c.isqrt.ensures.next_square_gt;
 }

@@ -17,7 +17,7 @@ pair-requires c =
     let d = c.args.self in
     let r = c.relative_root.result in
     let e = c.relative_root.ensures in
-    let near = of_mean_narrow d.passes d.squares.low d.squares.high r.low r.high d.divisor.low d.divisor.high d.counted.0 d.divisor.ranged.0 d.divisor.ranged.1 d.divisor.narrow (omega arith) (d.narrow 400) e.under e.near_low e.near_high in
+    let near = of_mean_narrow d r e.under e.near_low e.near_high in
     omega (arith, near.0, near.1)
 
 pub returns : goal.returns
@@ -26,7 +26,7 @@ returns c =
     let r = c.relative_root.result in
     let e = c.relative_root.ensures in
     let p = c.pair.ensures in
-    let near = of_mean_narrow d.passes d.squares.low d.squares.high r.low r.high d.divisor.low d.divisor.high d.counted.0 d.divisor.ranged.0 d.divisor.ranged.1 d.divisor.narrow (omega arith) (d.narrow 400) e.under e.near_low e.near_high in
+    let near = of_mean_narrow d r e.under e.near_low e.near_high in
     record {
       holds = λ k xs n h. holds_ends p.low p.high (of_mean_holds k xs d.passes r.low r.high d.divisor.low d.divisor.high d.squares.low d.squares.high n (omega arith) (omega arith) e.under e.over h.over h.under h.floor h.top);
       range = (omega (arith, ints), omega (arith, ints));

@@ -1,5 +1,5 @@
 -- Roots of quotients in whole numbers: a bound of the quotient rounded up is one of the quotient.
-use Rattle.std.proofs.Common.{◌≡◌, ℕ, ◌+◌, ◌*◌, ◌<◌, ◌≤◌, ap, mul-le-mul_right, arith}
+use Rattle.std.proofs.Common.{ℕ, ◌+◌, ◌*◌, ◌<◌, ◌≤◌, mul-le-mul_right, arith}
 use Rattle.std.specs.Int.{div_ceil}
 use Rattle.std.proofs.lemmas.Grind.{div_ceil_times}
 
@@ -8,6 +8,3 @@ times_ceil top bottom q o h = omega (arith, (div_ceil_times top bottom o).0, mul
 
 pub ceil_times : (top bottom q : ℕ) → 0 < bottom → q < div_ceil top bottom → q * bottom < top
 ceil_times top bottom q o h = let k : (q + 1) * bottom ≤ div_ceil top bottom * bottom = mul-le-mul_right bottom (omega arith) in omega (arith, (div_ceil_times top bottom o).1)
-
-pub below_exact : (r k q : ℕ) → r * r ≡ q → r ≡ k + 1 → k * k < q
-below_exact r k q e f = omega (arith, ap (λ (n : ℕ). n * n) f)

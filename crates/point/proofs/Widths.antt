@@ -113,10 +113,7 @@ against_cost s e x X b o h i j =
 square_bottom : (x : ℕ) → 90000000 ≤ x → 8100000000000000 ≤ x * x
 square_bottom x h = let q : 90000000 * 90000000 ≤ x * x = mul-le-mul h h in q
 
--- n·(n − 1) and n − 1 times a square, for n ≥ 5
-single_bottom : (m Q : ℕ) → 8100000000000000 ≤ Q → m * 8100000000000000 ≤ m * Q
-single_bottom m Q h = mul-le-mul_left m h
-
+-- n·(n − 1) times a square, for n ≥ 5
 mean_bottom : (n m Q : ℕ) → 4 ≤ m → 8100000000000000 ≤ Q → n * 32400000000000000 ≤ (n * m) * Q
 mean_bottom n m Q o h =
     let a : 4 * 8100000000000000 ≤ m * Q = mul-le-mul o h in
@@ -144,8 +141,8 @@ pub scatter_narrow : (d : Deviations) (r : Bounds)
     → ((j : ℕ) → r.high ≡ j + 1 → (j * j) * ((d.passes - 1) * (d.divisor.low * d.divisor.low)) < d.squares.high * 10000000000000000)
     → (r.low < 40000000) × (r.high ≤ r.low + 1151)
 scatter_narrow d r u v g =
-    let a = single_bottom (d.passes - 1) _ (square_bottom d.divisor.low d.divisor.ranged.0) in
-    let b = single_bottom (d.passes - 1) _ (square_bottom d.divisor.high (omega arith)) in
+    let a = mul-le-mul_left (d.passes - 1) (square_bottom d.divisor.low d.divisor.ranged.0) in
+    let b = mul-le-mul_left (d.passes - 1) (square_bottom d.divisor.high (omega arith)) in
     let near = root_narrow 1000 300 1150 40000000 d.passes (d.passes - 1) d.squares.low d.squares.high r.low r.high d.divisor.low d.divisor.high
     (omega arith) d.divisor.ranged.0 d.divisor.narrow (omega arith) (omega arith) (omega arith) (λ s. omega arith) (d.narrow 1000) u v g in
     (near.0, omega (arith, near.1))

@@ -1,18 +1,7 @@
-use Rattle.std.proofs.Common.{arith}
-use Rattle.std.proofs.lemmas.Int.{ints}
 use Rattle.point.proofs.Spreads.{spread_least, spread_most}
 use Rattle.point.proofs.Widths.{all_stretched}
-use Rattle.point.proofs.Divisors.{value_least, value_most, against_least, against_most}
+use Rattle.point.proofs.Divisors.{against_least, against_most}
 use Rattle.point.proofs.scatter.Deviations.of.Goals as goal
-
-pub divisor-requires : goal.divisor-requires
-divisor-requires g c =
-    let k = g.V.Value.kind in
-    let level = c.args.level in
-    record {
-      range = (value_least k c.args.mean.low level.low c.requires.lowered.0 level.ranged.0, value_most k c.args.mean.high level.high c.requires.lowered.1 level.ranged.2);
-      narrow = omega (arith, ints);
-    }
 
 pub invariant_of-result-clause-narrow : goal.invariant_of-result-clause-narrow
 invariant_of-result-clause-narrow g c = λ u s.

@@ -1,16 +1,9 @@
-use Rattle.std.proofs.Common.{◌-◌, ◌*◌, ◌≤◌, mul-le-mul, mul-pos, arith}
+use Rattle.std.proofs.Common.{arith}
 use Rattle.std.proofs.lemmas.Int.{ints}
 use Rattle.exact.proofs.Pairs.{holds_ends}
 use Rattle.point.proofs.Scatters.{of_mean_holds}
 use Rattle.point.proofs.Widths.{of_mean_narrow}
 use Rattle.point.proofs.scatter.Deviations.of_mean.Goals as goal
-
-pub relative_root-requires : goal.relative_root-requires
-relative_root-requires c =
-    let d = c.args.self in
-    let fewer : d.passes - 1 ≤ 19 = omega arith in
-    let most : d.passes * (d.passes - 1) ≤ 20 * 19 = mul-le-mul d.counted.1 fewer in
-    (mul-pos (omega arith) (omega arith), most)
 
 pub pair-requires : goal.pair-requires
 pair-requires c =

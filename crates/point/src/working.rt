@@ -43,12 +43,16 @@ fn all_fitting<V: Statistic>(rows: &[Ends]) -> bool
     rows.iter().all(|row| fitting::<V>(*row))
 }
 
-/// The figures of a point, where there are 5 to 20 rows and each fits its kind.
+/// Whether there are 5 to 20 rows and each fits its kind.
+pub fn workable<V: Statistic>(rows: &[Ends]) -> bool
+    ensures { IsTrue result ↔ Workable V.Value.kind rows.now }
+{
+    (5..=20).contains(&rows.len()) && all_fitting::<V>(rows)
+}
+
+/// The figures of a point, where its rows are workable.
 pub fn point<V: Statistic>(rows: &[Ends]) -> Option<Point>
     ensures { Answered V.Value.kind rows.now result }
 {
-    if rows.len() < 5 || rows.len() > 20 || !all_fitting::<V>(rows) {
-        return None;
-    }
-    Some(work::<V>(rows))
+    workable::<V>(rows).then(|| work::<V>(rows))
 }

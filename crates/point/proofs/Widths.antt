@@ -1,4 +1,4 @@
--- How far apart the ends of S, S0 and ε are, in whole numbers.
+-- How far apart the ends of S and S0 are, in whole numbers.
 use Rattle.std.proofs.Common.{◌≡◌, ℕ, suc, ◌+◌, ◌-◌, ◌*◌, ◌<◌, ◌≤◌, List, [], ◌∷◌, length, sum_by, mul-le-mul_right, mul-le-mul, mul-le-mul_left, mul-pos, le_of_mul-le-mul_right, arith}
 use native.Mathlib.Decide.{dec_le}
 use native.Mathlib.Nat.{le_of_mul-le-mul_left}
@@ -31,29 +31,6 @@ all_stretched k s kind (e ∷ es) p P h f =
   where
     go : (u v w a A b B n : ℕ) → u * A ≤ v * a + w * (601 * 601) → u * B ≤ v * b + w * (n * (601 * 601)) → u * (A + B) ≤ v * (a + b) + w * (suc n * (601 * 601))
     go u v w a A b B n i j = omega arith
-
--- a deviation is at most 21,111,112 steps, so that the sums of their squares have a bound
-nearest_most : (a A p P : ℕ) → a ≤ A → p ≤ P → 90000000 ≤ a → A ≤ 111111112 → 90000000 ≤ p → P ≤ 111111112 → nearest a A p P ≤ 21111112
-nearest_most a A p P u v h i j k = omega arith
-
-farthest_most : (a A p P : ℕ) → a ≤ A → p ≤ P → 90000000 ≤ a → A ≤ 111111112 → 90000000 ≤ p → P ≤ 111111112 → farthest a A p P ≤ 21111112
-farthest_most a A p P u v h i j k = omega arith
-
-pub nearest_square : (k : Kind) (e : Ends) (p P : ℕ) → p ≤ P → 90000000 ≤ p → P ≤ 111111112 → Fits k e
-    → nearest² k p P e ≤ 445679049876544
-nearest_square k e p P v j i f =
-    let r = level_range k e f in
-    let m = nearest_most (raised k e.low) (raised k e.high) p P r.3 v r.2 r.4 j i in
-    let q : nearest (raised k e.low) (raised k e.high) p P * nearest (raised k e.low) (raised k e.high) p P ≤ 21111112 * 21111112 = mul-le-mul m m in
-    q
-
-pub farthest_square : (k : Kind) (e : Ends) (p P : ℕ) → p ≤ P → 90000000 ≤ p → P ≤ 111111112 → Fits k e
-    → farthest² k p P e ≤ 445679049876544
-farthest_square k e p P v j i f =
-    let r = level_range k e f in
-    let m = farthest_most (raised k e.low) (raised k e.high) p P r.3 v r.2 r.4 j i in
-    let q : farthest (raised k e.low) (raised k e.high) p P * farthest (raised k e.low) (raised k e.high) p P ≤ 21111112 * 21111112 = mul-le-mul m m in
-    q
 
 -- From here: n rows, D and E the sums of the least and of the greatest squares, scatter measured against x to X,
 -- Q = x², R = X², P the divisor n − 1 or n·(n − 1), s one above the lower end, U = 10¹⁶.

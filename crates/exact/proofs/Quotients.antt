@@ -62,6 +62,17 @@ floor_under n d p = (omega arith, omega arith)
 pub ceil_over : (n d : ℕ) → 0 < d → (n ≤ ceiling n d * d) × (ceiling n d * d < n + d)
 ceil_over n d p = let h = floor_under (n + (d - 1)) d p in (omega arith, omega arith)
 
+-- the library's quotient rounded up is the same
+pub div_ceil_ceiling : (n d : ℕ) → 0 < d → div_ceil n d ≡ ceiling n d
+div_ceil_ceiling n d o =
+    let f = div_ceil_times n d o in
+    let g = ceil_over n d o in
+    let u : div_ceil n d * d < (ceiling n d + 1) * d = omega arith in
+    let v : ceiling n d * d < (div_ceil n d + 1) * d = omega arith in
+    let a : div_ceil n d < ceiling n d + 1 = lt_of_mul-lt-mul_right d u in
+    let b : ceiling n d < div_ceil n d + 1 = lt_of_mul-lt-mul_right d v in
+    omega arith
+
 -- q·d ≤ n and n ≤ q·d, as bounds of n/d
 pub nat_least : (n d q : ℕ) → 0 < d → q * d ≤ n → Le (nat q) (div (nat n) (nat d))
 nat_least n d q o h = worth_le (worth_nat q) (worth_div o (worth_nat n) (worth_nat d)) (omega arith)

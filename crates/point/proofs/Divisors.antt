@@ -1,24 +1,13 @@
 -- What scatter is measured against, between the ends of the divisor.
-use Rattle.std.proofs.Common.{◌≡◌, ℕ, ◌≤◌, ℤ, pos, ◌+ℤ◌, nat_abs, ◌≤ℤ◌, sym, subst, arith}
+use Rattle.std.proofs.Common.{◌≡◌, ℕ, ℤ, pos, ◌+ℤ◌, nat_abs, sym, subst, arith}
 use Rattle.std.proofs.lemmas.Int.{ints}
 use Rattle.exact.specs.Fractions.{Fraction, Le}
 use Rattle.exact.specs.Pairs.{steps}
 use Rattle.exact.proofs.Worth.{worth_nat, worth_le}
-use Rattle.pass.specs.Kinds.{Kind, K, MF, F, least}
+use Rattle.pass.specs.Kinds.{Kind, K, MF, F}
 use Rattle.point.specs.Points.{against}
 use Rattle.point.specs.Levels.{level, raise, against_end}
 use Rattle.point.proofs.Steps.{worth_step}
-
--- a value whose level is a level of rows
-pub value_least : (k : Kind) (z : ℤ) (n : ℕ) → z +ℤ pos (raise k) ≡ pos n → 90000000 ≤ n → least k ≤ℤ z
-value_least K z n e h = omega (arith, ints)
-value_least MF z n e h = omega (arith, ints)
-value_least F z n e h = omega (arith, ints)
-
-pub value_most : (k : Kind) (z : ℤ) (n : ℕ) → z +ℤ pos (raise k) ≡ pos n → n ≤ 111111112 → z ≤ℤ pos 111111112
-value_most K z n e h = omega (arith, ints)
-value_most MF z n e h = omega (arith, ints)
-value_most F z n e h = omega (arith, ints)
 
 same_step : (a n : ℕ) {x : Fraction} → a ≡ n → Le (steps (pos n)) x → Le (steps (pos a)) x
 same_step a n {x} e h = subst (λ (z : ℕ). Le (steps (pos z)) x) (sym e) h

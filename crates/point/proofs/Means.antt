@@ -1,15 +1,17 @@
 -- The mean of values that rows hold, worked out on their levels.
 use Rattle.std.proofs.Common.{◌≡◌, ℕ, suc, ◌+◌, ◌*◌, ◌<◌, ◌≤◌, List, [], ◌∷◌, length, ℤ, pos, ◌+ℤ◌, sum_by, refl, ap, subst, arith, lit<}
 use Rattle.std.specs.List.{AllByRecursion}
+use Rattle.std.specs.Int.{div_ceil}
+use Rattle.std.proofs.lemmas.Grind.{div_ceil_times}
 use Rattle.std.proofs.lemmas.Int.{ints}
 use Rattle.std.proofs.lemmas.List.Sums.{sum_by-cons}
 use Rattle.exact.specs.Fractions.{Fraction, Le, Same, nat, add, mul, div}
 use Rattle.exact.specs.Figures.{number}
-use Rattle.exact.specs.Pairs.{Holds, steps, floor, ceiling}
+use Rattle.exact.specs.Pairs.{Holds, steps, floor}
 use Rattle.exact.proofs.Order.{le_trans, same_le, same_sym, same_refl, nat_positive}
 use Rattle.exact.proofs.Worth.{Worth, worth_itself, worth_nat, worth_whole, worth_add, worth_mul, worth_div, worth_le, le_worth, worth_same, worth_of}
 use Rattle.exact.proofs.Arithmetic.{add_mono}
-use Rattle.exact.proofs.Quotients.{quotient_least, quotient_most, floor_under, ceil_over, floor_least, floor_most, ceil_most}
+use Rattle.exact.proofs.Quotients.{quotient_least, quotient_most, floor_under, ceil_over, floor_least, floor_most, ceil_most, div_ceil_ceiling}
 use Rattle.pass.specs.Kinds.{Kind, K, MF, F}
 use Rattle.point.specs.declared.ends.Ends.{Ends}
 use Rattle.point.specs.Points.{sum, mean}
@@ -113,11 +115,11 @@ mean_level F xs o =
 
 -- the mean's level lies between the mean of the lower ends rounded down and that of the upper ends rounded up
 pub mean_holds : (k : Kind) (es : List Ends) (xs : List Fraction) (l h : ℕ) → AllByRecursion (Fits k) es → Held es xs → 0 < length es
-    → l ≡ floor (sum_by (λ e. raised k e.low) es) (length es) → h ≡ ceiling (sum_by (λ e. raised k e.high) es) (length es) → Holds steps (pos l) (pos h) (number (level k (mean xs)))
+    → l ≡ floor (sum_by (λ e. raised k e.low) es) (length es) → h ≡ div_ceil (sum_by (λ e. raised k e.high) es) (length es) → Holds steps (pos l) (pos h) (number (level k (mean xs)))
 mean_holds k es xs l h f t o a b =
     let n = held_length t in
     let under = floor_under (sum_by (λ e. raised k e.low) es) (length es) o in
-    let over = ceil_over (sum_by (λ e. raised k e.high) es) (length es) o in
+    let over = div_ceil_times (sum_by (λ e. raised k e.high) es) (length es) o in
     let O : 0 < length xs = subst (λ (m : ℕ). 0 < m) n o in
     record {
       least = le_trans (quotient_least (nat_positive O) (le_trans (go_least l (length xs) (sum_by (λ e. raised k e.low) es) (rw (a, ← n) under.0)) (sum_least k es xs f t))) (same_le (same_sym (mean_level k xs O)));
@@ -143,12 +145,12 @@ sums_range k (e ∷ es) f =
     (omega arith, omega arith, omega arith, omega arith)
 
 pub mean_range : (n s S : ℕ) → 0 < n → n * 90000000 ≤ s → s ≤ S → S ≤ n * 111111112 → S ≤ s + n * 300
-    → ((90000000 ≤ floor s n) × (floor s n ≤ ceiling S n) × (ceiling S n ≤ 111111112)) × (ceiling S n ≤ floor s n + 301)
+    → ((90000000 ≤ floor s n) × (floor s n ≤ div_ceil S n) × (div_ceil S n ≤ 111111112)) × (div_ceil S n ≤ floor s n + 301)
 mean_range n s S o a b c d =
     let u = floor_under s n o in
     let v = ceil_over S n o in
     let x = floor_least s n 90000000 o (omega arith) in
     let y = ceil_most S n 111111112 o (omega arith) in
     let z = ceil_most S n (floor s n + 301) o (omega arith) in
-    let w : floor s n ≤ ceiling S n = floor_most s n (ceiling S n) o (omega arith) in
-    ((x, w, y), z)
+    let w = floor_most s n _ o (omega arith) in
+    rw (div_ceil_ceiling S n o) ((x, w, y), z)

@@ -22,7 +22,7 @@ twice_up x y h =
     go x e = omega arith
 
 -- 2xy ≤ x² + y²
-pub twice : (x y : ℕ) → 2 * (x * y) ≤ x * x + y * y
+twice : (x y : ℕ) → 2 * (x * y) ≤ x * x + y * y
 twice x y = elim (dec_le x y) [ yes h ↦ twice_up x y h | no h ↦ (let k : y ≤ x = omega arith in omega (arith, twice_up y x k)) ]
 
 -- A number at most w above another: k·s·A² ≤ k·(s + k)·a² + s·(s + k)·w².

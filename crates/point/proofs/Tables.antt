@@ -1,20 +1,18 @@
--- A rule of a table, proved at all of its entries by one test that antt computes.
-use Rattle.std.proofs.Common.{◌≡◌, ℕ, ◌<◌, ◌≤◌, Bool, true, ◌&&◌, leb, List, [], ◌∷◌, length, get_or}
-use Rattle.std.specs.List.{AllByRecursion}
-use Rattle.std.proofs.ByRecursion.{All-get_or}
+-- Student's t lies between the table's last and first entries: one test that antt computes, at all of them.
+use Rattle.std.proofs.Common.{◌≡◌, ℕ, ◌-◌, ◌≤◌, Bool, true, ◌&&◌, leb, List, [], ◌∷◌, refl, arith}
 use Rattle.std.proofs.lemmas.Bool.{and_parts, leb-true}
+use Rattle.std.proofs.lemmas.List.Elements.{All-get_or}
+use Rattle.std.proofs.lemmas.List.Sums.{AllPass-from_list_all}
+use Rattle.point.specs.Points.{student}
 
--- every entry lies from a to b
-abbrev between : ℕ → ℕ → List ℕ → Bool
-between a b [] = true
-between a b (x ∷ xs) = (leb a x && leb x b) && between a b xs
+abbrev entries : List ℕ
+entries = 2776 ∷ 2571 ∷ 2447 ∷ 2365 ∷ 2306 ∷ 2262 ∷ 2228 ∷ 2201 ∷ 2179 ∷ 2160 ∷ 2145 ∷ 2131 ∷ 2120 ∷ 2110 ∷ 2101 ∷ 2093 ∷ []
 
-all_between : (a b : ℕ) (xs : List ℕ) → between a b xs ≡ true → AllByRecursion (λ x. (a ≤ x) × (x ≤ b)) xs
-all_between a b [] h = tt
-all_between a b (x ∷ xs) h =
-    let p = and_parts (leb a x && leb x b) (between a b xs) h in
-    let q = and_parts (leb a x) (leb x b) p.0 in
-    ((leb-true a x q.0, leb-true x b q.1), all_between a b xs p.1)
+abbrev within : ℕ → Bool
+within t = leb 2093 t && leb t 2776
 
-pub table_range : (a b : ℕ) (xs : List ℕ) → between a b xs ≡ true → (i : ℕ) → i < length xs → (a ≤ get_or xs i 0) × (get_or xs i 0 ≤ b)
-table_range a b xs h i l = All-get_or (λ x. (a ≤ x) × (x ≤ b)) xs i 0 l (all_between a b xs h)
+pub student_range : (n : ℕ) → 5 ≤ n → n ≤ 20 → (2093 ≤ student n) × (student n ≤ 2776)
+student_range n h k =
+    let all = AllPass-from_list_all within entries refl in
+    let p = and_parts (leb 2093 (student n)) (leb (student n) 2776) (All-get_or (λ t. within t ≡ true) entries (n - 5) 0 (omega arith) all) in
+    (leb-true 2093 (student n) p.0, leb-true (student n) 2776 p.1)

@@ -1,11 +1,13 @@
--- How far apart the ends of S, S0 and ε are, in whole numbers.
-use Rattle.std.proofs.Common.{◌≡◌, ℕ, suc, ◌+◌, ◌-◌, ◌*◌, ◌/◌, ◌<◌, ◌≤◌, List, [], ◌∷◌, length, sum_by, mul-le-mul_right, mul-le-mul, mul-le-mul_left, mul-pos, le_of_mul-le-mul_right, arith}
+-- How far apart the ends of S and S0 are, in whole numbers.
+use Rattle.std.proofs.Common.{◌≡◌, ℕ, suc, ◌+◌, ◌-◌, ◌*◌, ◌<◌, ◌≤◌, List, [], ◌∷◌, length, sum_by, mul-le-mul_right, mul-le-mul, mul-le-mul_left, mul-pos, le_of_mul-le-mul_right, arith}
 use native.Mathlib.Decide.{dec_le}
 use native.Mathlib.Nat.{le_of_mul-le-mul_left}
 use Rattle.std.specs.List.{AllByRecursion}
 use Rattle.std.proofs.lemmas.List.Sums.{sum_by-cons}
 use Rattle.pass.specs.Kinds.{Kind}
+use Rattle.point.specs.declared.bounds.Bounds.{Bounds}
 use Rattle.point.specs.declared.ends.Ends.{Ends}
+use Rattle.point.specs.declared.scatter.Deviations.{Deviations}
 use Rattle.point.specs.Levels.{raised}
 use Rattle.point.specs.Rows.{Fits}
 use Rattle.point.specs.Deviations.{nearest, farthest, nearest², farthest²}
@@ -29,29 +31,6 @@ all_stretched k s kind (e ∷ es) p P h f =
   where
     go : (u v w a A b B n : ℕ) → u * A ≤ v * a + w * (601 * 601) → u * B ≤ v * b + w * (n * (601 * 601)) → u * (A + B) ≤ v * (a + b) + w * (suc n * (601 * 601))
     go u v w a A b B n i j = omega arith
-
--- a deviation is at most 21,111,112 steps, so that the sums of their squares have a bound
-nearest_most : (a A p P : ℕ) → a ≤ A → p ≤ P → 90000000 ≤ a → A ≤ 111111112 → 90000000 ≤ p → P ≤ 111111112 → nearest a A p P ≤ 21111112
-nearest_most a A p P u v h i j k = omega arith
-
-farthest_most : (a A p P : ℕ) → a ≤ A → p ≤ P → 90000000 ≤ a → A ≤ 111111112 → 90000000 ≤ p → P ≤ 111111112 → farthest a A p P ≤ 21111112
-farthest_most a A p P u v h i j k = omega arith
-
-pub nearest_square : (k : Kind) (e : Ends) (p P : ℕ) → p ≤ P → 90000000 ≤ p → P ≤ 111111112 → Fits k e
-    → nearest² k p P e ≤ 445679049876544
-nearest_square k e p P v j i f =
-    let r = level_range k e f in
-    let m = nearest_most (raised k e.low) (raised k e.high) p P r.3 v r.2 r.4 j i in
-    let q : nearest (raised k e.low) (raised k e.high) p P * nearest (raised k e.low) (raised k e.high) p P ≤ 21111112 * 21111112 = mul-le-mul m m in
-    q
-
-pub farthest_square : (k : Kind) (e : Ends) (p P : ℕ) → p ≤ P → 90000000 ≤ p → P ≤ 111111112 → Fits k e
-    → farthest² k p P e ≤ 445679049876544
-farthest_square k e p P v j i f =
-    let r = level_range k e f in
-    let m = farthest_most (raised k e.low) (raised k e.high) p P r.3 v r.2 r.4 j i in
-    let q : farthest (raised k e.low) (raised k e.high) p P * farthest (raised k e.low) (raised k e.high) p P ≤ 21111112 * 21111112 = mul-le-mul m m in
-    q
 
 -- From here: n rows, D and E the sums of the least and of the greatest squares, scatter measured against x to X,
 -- Q = x², R = X², P the divisor n − 1 or n·(n − 1), s one above the lower end, U = 10¹⁶.
@@ -111,68 +90,54 @@ against_cost s e x X b o h i j =
 square_bottom : (x : ℕ) → 90000000 ≤ x → 8100000000000000 ≤ x * x
 square_bottom x h = let q : 90000000 * 90000000 ≤ x * x = mul-le-mul h h in q
 
--- n·(n − 1) and n − 1 times a square, for n ≥ 5
-single_bottom : (m Q : ℕ) → 8100000000000000 ≤ Q → m * 8100000000000000 ≤ m * Q
-single_bottom m Q h = mul-le-mul_left m h
-
+-- n·(n − 1) times a square, for n ≥ 5
 mean_bottom : (n m Q : ℕ) → 4 ≤ m → 8100000000000000 ≤ Q → n * 32400000000000000 ≤ (n * m) * Q
 mean_bottom n m Q o h =
     let a : 4 * 8100000000000000 ≤ m * Q = mul-le-mul o h in
     let b : n * (4 * 8100000000000000) ≤ n * (m * Q) = mul-le-mul_left n a in
     omega arith
 
+-- The ends of a root over P·x², where the lower one is below b: they differ by at most w + 1.
+root_narrow : (k e w b n P D E l H x X : ℕ) → 0 < k → 90000000 ≤ x → X ≤ x + 301
+    → D * 10000000000000000 < (b * b) * (P * (X * X)) → (n * (601 * 601)) * 10000000000000000 ≤ (k * k) * (P * (x * x))
+    → b * 603 ≤ e * 90000000 → ((s : ℕ) → (s + k) * (s + k + e) ≤ (s + w) * (s + w))
+    → ((s : ℕ) → (k * s) * E ≤ (k * (s + k)) * D + (s * (s + k)) * (n * (601 * 601)))
+    → (l * l) * (P * (X * X)) ≤ D * 10000000000000000 → D * 10000000000000000 < ((l + 1) * (l + 1)) * (P * (X * X))
+    → ((j : ℕ) → H ≡ j + 1 → (j * j) * (P * (x * x)) < E * 10000000000000000) → (l < b) × (H ≤ l + 1 + w)
+root_narrow k e w b n P D E l H x X o p h i j c q f u v g =
+    let few : l < b = root_bound l b P (X * X) (D * 10000000000000000) u i in
+    let cost = against_cost (l + 1) e x X b p h (omega arith) c in
+    let top = core (n * (601 * 601)) P (x * x) (X * X) k e (l + 1) D E 10000000000000000 o (omega arith) (omega arith) (f (l + 1)) j cost in
+    let wide = mul-le-mul_right (P * (x * x)) (q (l + 1)) in
+    (few, root_most H (l + 1 + w) (P * (x * x)) (E * 10000000000000000) (omega arith) g)
+
 -- S: the ends differ by at most 1,151
-pub scatter_narrow : (n D E l H x X : ℕ) → 5 ≤ n → 90000000 ≤ x → x ≤ X → X ≤ x + 301 → D ≤ n * 445679049876544
-    → ((s : ℕ) → (1000 * s) * E ≤ (1000 * (s + 1000)) * D + (s * (s + 1000)) * (n * (601 * 601)))
-    → (l * l) * ((n - 1) * (X * X)) ≤ D * 10000000000000000 → D * 10000000000000000 < ((l + 1) * (l + 1)) * ((n - 1) * (X * X))
-    → ((j : ℕ) → H ≡ j + 1 → (j * j) * ((n - 1) * (x * x)) < E * 10000000000000000) → (l < 40000000) × (H ≤ l + 1151)
-scatter_narrow n D E l H x X o p r h d f u v g =
-    let Q = square_bottom x p in
-    let R = square_bottom X (omega arith) in
-    let a = single_bottom (n - 1) (x * x) Q in
-    let b = single_bottom (n - 1) (X * X) R in
-    let few : l < 40000000 = root_bound l 40000000 (n - 1) (X * X) (D * 10000000000000000) u (omega arith) in
-    let cost = against_cost (l + 1) 300 x X 40000000 p h (omega arith) (omega arith) in
-    let top = core (n * (601 * 601)) (n - 1) (x * x) (X * X) 1000 300 (l + 1) D E 10000000000000000 (omega arith) (omega arith) (omega arith) (f (l + 1)) (omega arith) cost in
-    (few, omega (arith, root_most H (l + 1 + 1150) ((n - 1) * (x * x)) (E * 10000000000000000) (wide (l + 1) ((n - 1) * (x * x)) (E * 10000000000000000) top) g))
-  where
-    wide : (s B T : ℕ) → T ≤ ((s + 1000) * (s + 1000 + 300)) * B → T ≤ ((s + 1150) * (s + 1150)) * B
-    wide s B T i = let j : ((s + 1000) * (s + 1000 + 300)) * B ≤ ((s + 1150) * (s + 1150)) * B = mul-le-mul_right B (omega arith) in omega arith
+pub scatter_narrow : (d : Deviations) (r : Bounds)
+    → (r.low * r.low) * ((d.passes - 1) * (d.divisor.high * d.divisor.high)) ≤ d.squares.low * 10000000000000000
+    → d.squares.low * 10000000000000000 < ((r.low + 1) * (r.low + 1)) * ((d.passes - 1) * (d.divisor.high * d.divisor.high))
+    → ((j : ℕ) → r.high ≡ j + 1 → (j * j) * ((d.passes - 1) * (d.divisor.low * d.divisor.low)) < d.squares.high * 10000000000000000)
+    → (r.low < 40000000) × (r.high ≤ r.low + 1151)
+scatter_narrow d r u v g =
+    let a = mul-le-mul_left (d.passes - 1) (square_bottom d.divisor.low d.divisor.ranged.0) in
+    let b = mul-le-mul_left (d.passes - 1) (square_bottom d.divisor.high (omega arith)) in
+    let near = root_narrow 1000 300 1150 40000000 d.passes (d.passes - 1) d.squares.low d.squares.high r.low r.high d.divisor.low d.divisor.high
+    (omega arith) d.divisor.ranged.0 d.divisor.narrow (omega arith) (omega arith) (omega arith) (λ s. omega arith) (d.narrow 1000) u v g in
+    (near.0, omega (arith, near.1))
 
 -- S0: the ends differ by at most 451
-pub of_mean_narrow : (n D E l H x X : ℕ) → 5 ≤ n → 90000000 ≤ x → x ≤ X → X ≤ x + 301 → D ≤ n * 445679049876544
-    → ((s : ℕ) → (400 * s) * E ≤ (400 * (s + 400)) * D + (s * (s + 400)) * (n * (601 * 601)))
-    → (l * l) * ((n * (n - 1)) * (X * X)) ≤ D * 10000000000000000 → D * 10000000000000000 < ((l + 1) * (l + 1)) * ((n * (n - 1)) * (X * X))
-    → ((j : ℕ) → H ≡ j + 1 → (j * j) * ((n * (n - 1)) * (x * x)) < E * 10000000000000000) → (l < 14000000) × (H ≤ l + 451)
-of_mean_narrow n D E l H x X o p r h d f u v g =
-    let Q = square_bottom x p in
-    let R = square_bottom X (omega arith) in
-    let a = mean_bottom n (n - 1) (x * x) (omega arith) Q in
-    let b = mean_bottom n (n - 1) (X * X) (omega arith) R in
-    let few : l < 14000000 = root_bound l 14000000 (n * (n - 1)) (X * X) (D * 10000000000000000) u (omega arith) in
-    let cost = against_cost (l + 1) 100 x X 14000000 p h (omega arith) (omega arith) in
-    let top = core (n * (601 * 601)) (n * (n - 1)) (x * x) (X * X) 400 100 (l + 1) D E 10000000000000000 (omega arith) (omega arith) (omega arith) (f (l + 1)) (omega arith) cost in
-    (few, omega (arith, root_most H (l + 1 + 450) ((n * (n - 1)) * (x * x)) (E * 10000000000000000) (wide (l + 1) ((n * (n - 1)) * (x * x)) (E * 10000000000000000) top) g))
-  where
-    wide : (s B T : ℕ) → T ≤ ((s + 400) * (s + 400 + 100)) * B → T ≤ ((s + 450) * (s + 450)) * B
-    wide s B T i = let j : ((s + 400) * (s + 400 + 100)) * B ≤ ((s + 450) * (s + 450)) * B = mul-le-mul_right B (omega arith) in omega arith
+pub of_mean_narrow : (d : Deviations) (r : Bounds)
+    → (r.low * r.low) * ((d.passes * (d.passes - 1)) * (d.divisor.high * d.divisor.high)) ≤ d.squares.low * 10000000000000000
+    → d.squares.low * 10000000000000000 < ((r.low + 1) * (r.low + 1)) * ((d.passes * (d.passes - 1)) * (d.divisor.high * d.divisor.high))
+    → ((j : ℕ) → r.high ≡ j + 1 → (j * j) * ((d.passes * (d.passes - 1)) * (d.divisor.low * d.divisor.low)) < d.squares.high * 10000000000000000)
+    → (r.low < 14000000) × (r.high ≤ r.low + 451)
+of_mean_narrow d r u v g =
+    let a = mean_bottom d.passes (d.passes - 1) _ (omega arith) (square_bottom d.divisor.low d.divisor.ranged.0) in
+    let b = mean_bottom d.passes (d.passes - 1) _ (omega arith) (square_bottom d.divisor.high (omega arith)) in
+    let near = root_narrow 400 100 450 14000000 d.passes (d.passes * (d.passes - 1)) d.squares.low d.squares.high r.low r.high d.divisor.low d.divisor.high
+    (omega arith) d.divisor.ranged.0 d.divisor.narrow (omega arith) (omega arith) (omega arith) (λ s. omega arith) (d.narrow 400) u v g in
+    (near.0, omega (arith, near.1))
 
--- the ends stay in order
-nearest_farthest : (a A p P : ℕ) → a ≤ A → p ≤ P → nearest a A p P ≤ farthest a A p P
-nearest_farthest a A p P h k = omega arith
-
-sums_ordered : (k : Kind) (es : List Ends) (p P : ℕ) → p ≤ P → AllByRecursion (Fits k) es → sum_by (nearest² k p P) es ≤ sum_by (farthest² k p P) es
-sums_ordered k [] p P h f = omega arith
-sums_ordered k (e ∷ es) p P h f =
-    let r = level_range k e f.0 in
-    let one = square_mono _ _ (nearest_farthest (raised k e.low) (raised k e.high) p P r.3 h) in
-    let l = sum_by-cons (nearest² k p P) e es in
-    let m = sum_by-cons (farthest² k p P) e es in
-    omega (arith, sums_ordered k es p P h f.1)
-
-pub spread_ordered : (k : Kind) (es : List Ends) (p P : ℕ) → p ≤ P → AllByRecursion (Fits k) es → (D E : ℕ) → D ≡ sum_by (nearest² k p P) es → E ≡ sum_by (farthest² k p P) es → D ≤ E
-spread_ordered k es p P h f D E d e = omega (arith, sums_ordered k es p P h f)
-
+-- the ends of a root stay in order
 pub root_ordered : (l H P x X D E : ℕ) → 0 < P → 90000000 ≤ x → x ≤ X → D ≤ E → (l * l) * (P * (X * X)) ≤ D * 10000000000000000 → E * 10000000000000000 ≤ (H * H) * (P * (x * x)) → l ≤ H
 root_ordered l H P x X D E o p h d u v =
     let a : (H * H) * (P * (x * x)) ≤ (H * H) * (P * (X * X)) = mul-le-mul_left (H * H) (mul-le-mul_left P (square_mono x X h)) in
@@ -180,15 +145,3 @@ root_ordered l H P x X D E o p h d u v =
     let b : 0 < P * (X * X) = mul-pos o (mul-pos i i) in
     let c : (l * l) * (P * (X * X)) ≤ (H * H) * (P * (X * X)) = omega arith in
     root_le l H (le_of_mul-le-mul_right c b)
-
--- ε from S0 between s and S: t·s/1000 rounded down, t·S/1000 rounded up
-pub random_narrow : (t s S : ℕ) → t ≤ 2776 → s ≤ S → S ≤ s + 520 → S ≤ 14000520
-    → ((t * s / 1000 ≤ (t * S + 999) / 1000) × ((t * S + 999) / 1000 ≤ 40000000) × ((t * S + 999) / 1000 ≤ t * s / 1000 + 1450)) × ((t * s / 1000 * 1000 ≤ t * s) × (t * S ≤ (t * S + 999) / 1000 * 1000))
-random_narrow t s S a h k m =
-    let u : t * s ≤ t * S = mul-le-mul_left t h in
-    let v : t * S ≤ t * (s + 520) = mul-le-mul_left t k in
-    let w : t * S ≤ 2776 * 14000520 = mul-le-mul a m in
-    ((omega arith, omega arith, omega arith), (omega arith, omega arith))
-
-pub random_most : (t S : ℕ) → t ≤ 2776 → S ≤ 14000520 → t * S ≤ 38865443520
-random_most t S a m = let w : t * S ≤ 2776 * 14000520 = mul-le-mul a m in w

@@ -1,17 +1,16 @@
-// The mean of a point.
+// The mean of a point. The rows stay a plain slice, each made into a level as it is read; what they must meet is said once, by `Workable`.
 ghost use Rattle.std.specs.Prelude.{◌≡◌, ◌+◌, ◌*◌, ◌<◌, ◌≤◌, List, length, pos, ◌+ℤ◌, sum_by};
-ghost use Rattle.std.specs.List.{AllByRecursion};
 ghost use Rattle.exact.specs.Fractions.{Fraction};
 ghost use Rattle.exact.specs.Figures.{number};
 ghost use Rattle.exact.specs.Pairs.{Holds, steps};
 ghost use Rattle.point.specs.Points.{mean as exact_mean};
 ghost use Rattle.point.specs.Levels.{raise, raised, level as level_of};
 ghost use Rattle.point.specs.Rows.{Fits, Held};
+ghost use Rattle.point.specs.Outcomes.{Workable};
 
 use crate::bounds::Bounds;
 use crate::ends::Ends;
 use crate::level::Level;
-use crate::rounding::{rounded_down, rounded_up};
 use crate::statistic::Statistic;
 use exact::pair::Pair;
 
@@ -21,17 +20,15 @@ pub(crate) fn read<V: Statistic>(row: Ends) -> Level
     ensures low { result.low ≡ raised V.Value.kind row.low }
     ensures high { result.high ≡ raised V.Value.kind row.high }
 {
-    let raise = V::raise();
     Level {
-        low: (row.low + raise) as u64,
-        high: (row.high + raise) as u64,
+        low: (row.low + V::RAISE).unsigned_abs(),
+        high: (row.high + V::RAISE).unsigned_abs(),
     }
 }
 
 /// The ends of the rows, near 1, added up.
 fn total<V: Statistic>(rows: &[Ends]) -> Bounds
-    requires few { length rows.now ≤ 20 }
-    requires fits { AllByRecursion (Fits V.Value.kind) rows.now }
+    requires { Workable V.Value.kind rows.now }
     ensures low { result.low ≡ sum_by (λ e. raised V.Value.kind e.low) rows.now }
     ensures high { result.high ≡ sum_by (λ e. raised V.Value.kind e.high) rows.now }
 {
@@ -47,15 +44,14 @@ fn total<V: Statistic>(rows: &[Ends]) -> Bounds
 
 /// The mean's pair near 1: the ends' means, rounded down and up.
 pub(crate) fn mean_level<V: Statistic>(rows: &[Ends]) -> Level
-    requires few { (5 ≤ length rows.now) × (length rows.now ≤ 20) }
-    requires fits { AllByRecursion (Fits V.Value.kind) rows.now }
+    requires { Workable V.Value.kind rows.now }
     ensures holds { (xs : List Fraction) → Held rows.now xs → Holds steps (pos result.low) (pos result.high) (number (level_of V.Value.kind (exact_mean xs))) }
 {
     let passes = rows.len() as u64;
     let sums = total::<V>(rows);
     Level {
-        low: rounded_down(sums.low, passes),
-        high: rounded_up(sums.high, passes),
+        low: sums.low / passes,
+        high: sums.high.div_ceil(passes),
     }
 }
 
@@ -64,9 +60,8 @@ pub(crate) fn lowered<V: Statistic>(level: Level) -> Pair
     ensures low { result.low +ℤ pos (raise V.Value.kind) ≡ pos level.low }
     ensures high { result.high +ℤ pos (raise V.Value.kind) ≡ pos level.high }
 {
-    let raise = V::raise();
     Pair {
-        low: level.low as i64 - raise,
-        high: level.high as i64 - raise,
+        low: level.low as i64 - V::RAISE,
+        high: level.high as i64 - V::RAISE,
     }
 }

@@ -31,5 +31,5 @@ pub fn root_ceil(top: u128, bottom: u128) -> u64
     ensures over { top ≤ (result * result) * bottom }
     ensures near { (k : ℕ) → result ≡ k + 1 → (k * k) * bottom < top }
 {
-    root_over((top + (bottom - 1)) / bottom)
+    root_over(top.div_ceil(bottom))
 }

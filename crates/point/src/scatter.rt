@@ -1,16 +1,21 @@
 // S, the scatter of a point's values; S0, the scatter of their mean; and ε, the random limit.
 ghost use Rattle.std.specs.Prelude.{◌≡◌, ℕ, ◌+◌, ◌-◌, ◌*◌, ◌^◌, ◌<◌, ◌≤◌, List, length, pos, ◌+ℤ◌, ◌≤ℤ◌};
 ghost use Rattle.exact.specs.Fractions.{Fraction};
+ghost use Rattle.exact.specs.Figures.{number};
 ghost use Rattle.exact.specs.Pairs.{Holds, steps};
 ghost use Rattle.pass.specs.Kinds.{Kind};
-ghost use Rattle.point.specs.Points.{scatter as exact_scatter, of_mean as exact_of_mean, random as exact_random};
+ghost use Rattle.point.specs.Points.{mean as exact_mean, scatter as exact_scatter, of_mean as exact_of_mean, random as exact_random};
+ghost use Rattle.point.specs.Levels.{raise, level as level_of};
 ghost use Rattle.point.specs.Deviations.{Deviates};
+ghost use Rattle.point.specs.Rows.{Held};
+ghost use Rattle.point.specs.Outcomes.{Workable};
 
 use crate::bounds::Bounds;
-use crate::deviations::Deviations;
-use crate::pairing::{natural, paired};
+use crate::deviations::spread;
+use crate::ends::Ends;
+use crate::level::Level;
 use crate::roots::{root_ceil, root_floor};
-use crate::rounding::{rounded_down, rounded_up};
+use crate::statistic::Statistic;
 use crate::student::quantile;
 use exact::pair::Pair;
 
@@ -24,46 +29,65 @@ fn bottom(shares: u64, end: u64) -> u128
     shares as u128 * (end as u128 * end as u128)
 }
 
-/// The root of the deviations over shares times the divisor's square, in steps.
-fn relative_root(deviations: &Deviations, shares: u64) -> Bounds
-    requires { (1 ≤ shares) × (shares ≤ 380) }
-    ensures under { (result.low * result.low) * (shares * (deviations.now.divisor.high * deviations.now.divisor.high)) ≤ deviations.now.least * 10000000000000000 }
-    ensures near_low { deviations.now.least * 10000000000000000 < ((result.low + 1) * (result.low + 1)) * (shares * (deviations.now.divisor.high * deviations.now.divisor.high)) }
-    ensures over { deviations.now.most * 10000000000000000 ≤ (result.high * result.high) * (shares * (deviations.now.divisor.low * deviations.now.divisor.low)) }
-    ensures near_high { (j : ℕ) → result.high ≡ j + 1 → (j * j) * (shares * (deviations.now.divisor.low * deviations.now.divisor.low)) < deviations.now.most * 10000000000000000 }
-{
-    Bounds {
-        low: root_floor(
-            deviations.least as u128 * 10_000_000_000_000_000,
-            bottom(shares, deviations.divisor.high),
-        ),
-        high: root_ceil(
-            deviations.most as u128 * 10_000_000_000_000_000,
-            bottom(shares, deviations.divisor.low),
-        ),
+/// What scatter is worked out from: the sum of squared deviations, in squared steps, and what scatter is divided by.
+#[derive(Clone, Copy, Drop)]
+pub(crate) struct Deviations {
+    squares: Bounds,
+    divisor: Level,
+    passes: u64,
+    ghost counted: { (5 ≤ passes) × (passes ≤ 20) },
+    ghost small: { squares.high ≤ passes * 445679049876544 },
+    ghost narrow: { (k s : ℕ) → (k * s) * squares.high ≤ (k * (s + k)) * squares.low + (s * (s + k)) * (passes * (601 * 601)) },
+}
+
+impl Deviations {
+    /// The squared deviations of a point's values, from its mean and the mean's pair near 1.
+    pub(crate) fn of<V: Statistic>(rows: &[Ends], mean: Pair, level: Level) -> Deviations
+        requires rows { Workable V.Value.kind rows.now }
+        requires lowered { (mean.low +ℤ pos (raise V.Value.kind) ≡ pos level.low) × (mean.high +ℤ pos (raise V.Value.kind) ≡ pos level.high) }
+        ensures passes { result.passes ≡ length rows.now }
+        ensures holds { (xs : List Fraction) → Held rows.now xs → Holds steps (pos level.low) (pos level.high) (number (level_of V.Value.kind (exact_mean xs))) → Deviates V.Value.kind xs result.squares.low result.squares.high result.divisor.low result.divisor.high }
+    {
+        Deviations {
+            squares: spread::<V>(rows, level),
+            divisor: V::divisor(mean),
+            passes: rows.len() as u64,
+        }
     }
-}
 
-/// S, in steps: the root of the squares over n − 1, against the divisor.
-pub(crate) fn scattered(deviations: &Deviations) -> Pair
-    requires { (k s : ℕ) → (k * s) * deviations.now.most ≤ (k * (s + k)) * deviations.now.least + (s * (s + k)) * (deviations.now.passes * (601 * 601)) }
-    ensures holds { (k : Kind) (xs : List Fraction) → length xs ≡ deviations.now.passes → Deviates k xs deviations.now.least deviations.now.most deviations.now.divisor.low deviations.now.divisor.high → Holds steps result.low result.high (exact_scatter k xs) }
-    ensures range { (pos 0 ≤ℤ result.low) × (result.high ≤ℤ pos 40001200) }
-    ensures narrow { result.high ≤ℤ (result.low +ℤ pos 1200) }
-{
-    let root = relative_root(deviations, deviations.passes - 1);
-    paired(root.low, root.high)
-}
+    /// The root of the squares over shares times the divisor's square, in steps.
+    fn relative_root(self, shares: u64) -> Bounds
+        requires { (1 ≤ shares) × (shares ≤ 380) }
+        ensures under { (result.low * result.low) * (shares * (self.divisor.high * self.divisor.high)) ≤ self.squares.low * 10000000000000000 }
+        ensures near_low { self.squares.low * 10000000000000000 < ((result.low + 1) * (result.low + 1)) * (shares * (self.divisor.high * self.divisor.high)) }
+        ensures over { self.squares.high * 10000000000000000 ≤ (result.high * result.high) * (shares * (self.divisor.low * self.divisor.low)) }
+        ensures near_high { (j : ℕ) → result.high ≡ j + 1 → (j * j) * (shares * (self.divisor.low * self.divisor.low)) < self.squares.high * 10000000000000000 }
+    {
+        let least = self.squares.low as u128 * 10_000_000_000_000_000;
+        let most = self.squares.high as u128 * 10_000_000_000_000_000;
+        Bounds {
+            low: root_floor(least, bottom(shares, self.divisor.high)),
+            high: root_ceil(most, bottom(shares, self.divisor.low)),
+        }
+    }
 
-/// S0, in steps: the root of the squares over n·(n − 1), against the divisor.
-pub(crate) fn mean_scatter(deviations: &Deviations) -> Pair
-    requires { (k s : ℕ) → (k * s) * deviations.now.most ≤ (k * (s + k)) * deviations.now.least + (s * (s + k)) * (deviations.now.passes * (601 * 601)) }
-    ensures holds { (k : Kind) (xs : List Fraction) → length xs ≡ deviations.now.passes → Deviates k xs deviations.now.least deviations.now.most deviations.now.divisor.low deviations.now.divisor.high → Holds steps result.low result.high (exact_of_mean k xs) }
-    ensures range { (pos 0 ≤ℤ result.low) × (result.high ≤ℤ pos 14000520) }
-    ensures narrow { result.high ≤ℤ (result.low +ℤ pos 520) }
-{
-    let root = relative_root(deviations, deviations.passes * (deviations.passes - 1));
-    paired(root.low, root.high)
+    /// S, in steps: the root of the squares over n − 1, against the divisor.
+    pub(crate) fn scatter(self) -> Pair
+        ensures holds { (k : Kind) (xs : List Fraction) → length xs ≡ self.passes → Deviates k xs self.squares.low self.squares.high self.divisor.low self.divisor.high → Holds steps result.low result.high (exact_scatter k xs) }
+        ensures range { (pos 0 ≤ℤ result.low) × (result.high ≤ℤ pos 40001200) }
+        ensures narrow { result.high ≤ℤ (result.low +ℤ pos 1200) }
+    {
+        self.relative_root(self.passes - 1).pair()
+    }
+
+    /// S0, in steps: the root of the squares over n·(n − 1), against the divisor.
+    pub(crate) fn of_mean(self) -> Pair
+        ensures holds { (k : Kind) (xs : List Fraction) → length xs ≡ self.passes → Deviates k xs self.squares.low self.squares.high self.divisor.low self.divisor.high → Holds steps result.low result.high (exact_of_mean k xs) }
+        ensures range { (pos 0 ≤ℤ result.low) × (result.high ≤ℤ pos 14000520) }
+        ensures narrow { result.high ≤ℤ (result.low +ℤ pos 520) }
+    {
+        self.relative_root(self.passes * (self.passes - 1)).pair()
+    }
 }
 
 /// ε = t·S0, in steps.
@@ -75,9 +99,11 @@ pub(crate) fn random_limit(passes: usize, of_mean: Pair) -> Pair
     ensures range { (pos 0 ≤ℤ result.low) × (result.high ≤ℤ pos 40000000) }
     ensures narrow { result.high ≤ℤ (result.low +ℤ pos 1450) }
 {
-    let t = quantile(passes) as u64;
-    paired(
-        rounded_down(t * natural(of_mean.low), 1_000),
-        rounded_up(t * natural(of_mean.high), 1_000),
-    )
+    let t = u64::from(quantile(passes));
+    let ends = Bounds::of(of_mean);
+    let limit = Bounds {
+        low: t * ends.low / 1_000,
+        high: (t * ends.high).div_ceil(1_000),
+    };
+    limit.pair()
 }

@@ -1,6 +1,6 @@
 // What the statistics of a point ask of a kind of value.
-ghost use Rattle.std.specs.Prelude.{◌≡◌, pos, negsuc, ◌+ℤ◌, ◌≤ℤ◌, unsigned_abs};
-ghost use Rattle.pass.specs.Kinds.{least, most};
+ghost use Rattle.std.specs.Prelude.{◌≡◌, ℤ, pos, ◌+ℤ◌, ◌≤ℤ◌, unsigned_abs, refl};
+ghost use Rattle.pass.specs.Kinds.{K, MF, F as Signed, least, most};
 ghost use Rattle.point.specs.Levels.{raise, against_end};
 
 use crate::level::Level;
@@ -11,14 +11,18 @@ use pass::value::{RatioValue, Value};
 /// A kind of value, as the statistics of a point need it.
 pub trait Statistic: Value {
     /// What brings a value near 1, in steps: nothing for a ratio, 1 for F.
-    fn raise() -> i64
-        ensures { result ≡ pos (raise Self.Value.kind) };
+    const RAISE: i64;
+    /// The least step that the value of an accepted pass reaches.
+    const LEAST: i64;
+    /// The greatest.
+    const MOST: i64;
 
-    /// Between which steps the values of accepted passes lie.
-    fn range() -> Pair
-        ensures low { result.low ≡ least Self.Value.kind }
-        ensures high { result.high ≡ most Self.Value.kind }
-        ensures small { (negsuc 9999999 ≤ℤ result.low) × (result.high ≤ℤ pos 111111112) };
+    // the constants, as clauses read them
+    ghost RAISE: { ℤ };
+
+    ghost LEAST: { ℤ };
+
+    ghost MOST: { ℤ };
 
     /// What scatter is divided by, in steps: the mean of a ratio; for F, whose mean may be 0, the number 1.
     fn divisor(mean: Pair) -> Level
@@ -26,6 +30,9 @@ pub trait Statistic: Value {
         requires narrow { mean.high ≤ℤ (mean.low +ℤ pos 301) }
         ensures low { result.low ≡ against_end Self.Value.kind mean.low }
         ensures high { result.high ≡ against_end Self.Value.kind mean.high };
+
+    // the constants are those of the kind
+    ghost of_kind: { (RAISE ≡ pos (raise Self.Value.kind)) × (LEAST ≡ least Self.Value.kind) × (MOST ≡ most Self.Value.kind) };
 }
 
 /// The mean of a ratio, as what divides: it is never near 0.
@@ -36,22 +43,25 @@ fn by_mean<V: RatioValue>(mean: Pair) -> Level
     ensures high { result.high ≡ unsigned_abs mean.high }
 {
     Level {
-        low: mean.low as u64,
-        high: mean.high as u64,
+        low: mean.low.unsigned_abs(),
+        high: mean.high.unsigned_abs(),
     }
 }
 
 impl Statistic for PulseFactor {
-    fn raise() -> i64 {
-        0
-    }
+    const RAISE: i64 = 0;
 
-    fn range() -> Pair {
-        Pair {
-            low: 90_000_000,
-            high: 111_111_112,
-        }
-    }
+    const LEAST: i64 = 90_000_000;
+
+    const MOST: i64 = 111_111_112;
+
+    ghost RAISE = { pos (raise K) };
+
+    ghost LEAST = { least K };
+
+    ghost MOST = { most K };
+
+    ghost of_kind = { (refl, refl, refl) };
 
     fn divisor(mean: Pair) -> Level {
         by_mean::<PulseFactor>(mean)
@@ -59,16 +69,19 @@ impl Statistic for PulseFactor {
 }
 
 impl Statistic for MeterFactor {
-    fn raise() -> i64 {
-        0
-    }
+    const RAISE: i64 = 0;
 
-    fn range() -> Pair {
-        Pair {
-            low: 90_000_000,
-            high: 110_000_000,
-        }
-    }
+    const LEAST: i64 = 90_000_000;
+
+    const MOST: i64 = 110_000_000;
+
+    ghost RAISE = { pos (raise MF) };
+
+    ghost LEAST = { least MF };
+
+    ghost MOST = { most MF };
+
+    ghost of_kind = { (refl, refl, refl) };
 
     fn divisor(mean: Pair) -> Level {
         by_mean::<MeterFactor>(mean)
@@ -76,16 +89,19 @@ impl Statistic for MeterFactor {
 }
 
 impl Statistic for Correction {
-    fn raise() -> i64 {
-        100_000_000
-    }
+    const RAISE: i64 = 100_000_000;
 
-    fn range() -> Pair {
-        Pair {
-            low: -10_000_000,
-            high: 10_000_000,
-        }
-    }
+    const LEAST: i64 = -10_000_000;
+
+    const MOST: i64 = 10_000_000;
+
+    ghost RAISE = { pos (raise Signed) };
+
+    ghost LEAST = { least Signed };
+
+    ghost MOST = { most Signed };
+
+    ghost of_kind = { (refl, refl, refl) };
 
     fn divisor(_mean: Pair) -> Level {
         Level {

@@ -2,9 +2,7 @@
 ghost use Rattle.point.specs.Worked.{ScatterWorked, RandomWorked};
 
 /// S² and ε² of five corrections.
-pub fn worked() -> bool
+pub fn worked()
     ensures scatter { ScatterWorked }
     ensures random { RandomWorked }
-{
-    true
-}
+{}

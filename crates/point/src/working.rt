@@ -1,15 +1,14 @@
 // The figures of a point, worked out from its rows.
-ghost use Rattle.std.specs.Prelude.{◌≡◌, true, false, List};
+ghost use Rattle.std.specs.Prelude.{◌↔◌, IsTrue, List};
 ghost use Rattle.std.specs.List.{AllByRecursion};
 ghost use Rattle.exact.specs.Fractions.{Fraction};
 ghost use Rattle.point.specs.Rows.{Fits, Held};
 ghost use Rattle.point.specs.Outcomes.{Workable, PointHolds, Answered};
 
-use crate::deviations::deviate;
 use crate::ends::Ends;
 use crate::figures::Point;
 use crate::mean::{lowered, mean_level};
-use crate::scatter::{mean_scatter, random_limit, scattered};
+use crate::scatter::{Deviations, random_limit};
 use crate::statistic::Statistic;
 
 /// The figures of a point from rows that are known to be workable.
@@ -19,12 +18,12 @@ pub fn work<V: Statistic>(rows: &[Ends]) -> Point
 {
     let level = mean_level::<V>(rows);
     let mean = lowered::<V>(level);
-    let deviations = deviate::<V>(rows, mean, level);
-    let of_mean = mean_scatter(&deviations);
+    let deviations = Deviations::of::<V>(rows, mean, level);
+    let of_mean = deviations.of_mean();
     Point {
         mean,
         level,
-        scatter: scattered(&deviations),
+        scatter: deviations.scatter(),
         of_mean,
         random: random_limit(rows.len(), of_mean),
     }
@@ -32,38 +31,28 @@ pub fn work<V: Statistic>(rows: &[Ends]) -> Point
 
 /// Whether a row fits its kind.
 fn fitting<V: Statistic>(row: Ends) -> bool
-    ensures yes { result ≡ true → Fits V.Value.kind row }
-    ensures no { result ≡ false → Fits V.Value.kind row → ⊥ }
+    ensures { IsTrue result ↔ Fits V.Value.kind row }
 {
-    let range = V::range();
-    if row.low < range.low || row.high < row.low || row.high > range.high {
-        return false;
-    }
-    if row.high - row.low > 300 {
-        return false;
-    }
-    true
+    V::LEAST <= row.low && row.low <= row.high && row.high <= V::MOST && row.high - row.low <= 300
 }
 
 /// Whether every row fits its kind.
 fn all_fitting<V: Statistic>(rows: &[Ends]) -> bool
-    ensures yes { result ≡ true → AllByRecursion (Fits V.Value.kind) rows.now }
-    ensures no { result ≡ false → AllByRecursion (Fits V.Value.kind) rows.now → ⊥ }
+    ensures { IsTrue result ↔ AllByRecursion (Fits V.Value.kind) rows.now }
 {
-    for row in rows {
-        if !fitting::<V>(*row) {
-            return false;
-        }
-    }
-    true
+    rows.iter().all(|row| fitting::<V>(*row))
 }
 
-/// The figures of a point, where there are 5 to 20 rows and each fits its kind.
+/// Whether there are 5 to 20 rows and each fits its kind.
+pub fn workable<V: Statistic>(rows: &[Ends]) -> bool
+    ensures { IsTrue result ↔ Workable V.Value.kind rows.now }
+{
+    (5..=20).contains(&rows.len()) && all_fitting::<V>(rows)
+}
+
+/// The figures of a point, where its rows are workable.
 pub fn point<V: Statistic>(rows: &[Ends]) -> Option<Point>
     ensures { Answered V.Value.kind rows.now result }
 {
-    if rows.len() < 5 || rows.len() > 20 || !all_fitting::<V>(rows) {
-        return None;
-    }
-    Some(work::<V>(rows))
+    workable::<V>(rows).then(|| work::<V>(rows))
 }

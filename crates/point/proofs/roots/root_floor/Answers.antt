@@ -1,8 +1,5 @@
-use Rattle.point.proofs.RootBounds.{floor_times, times_floor}
+use Rattle.std.proofs.Math.Nat.{div-lt_iff_lt-mul}
 use Rattle.point.proofs.roots.root_floor.Goals as goal
 
-pub returns : goal.returns
-returns c = record {
-  under = floor_times c.args.top c.args.bottom _ c.requires c.isqrt.ensures.square_le;
-  near = times_floor c.args.top c.args.bottom _ c.requires c.isqrt.ensures.next_square_gt;
-}
+pub returns-clause-near : goal.returns-clause-near
+returns-clause-near c = (div-lt_iff_lt-mul c.requires).0 c.isqrt.ensures.next_square_gt

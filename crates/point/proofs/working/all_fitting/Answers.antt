@@ -1,23 +1,13 @@
-use Rattle.std.proofs.Common.{pos, subst}
-use Rattle.std.specs.List.{AllByRecursion}
-use Rattle.std.proofs.lemmas.List.{take_all}
-use Rattle.std.proofs.ByRecursion.{All-get_or, All-more}
-use Rattle.std.proofs.lemmas.Bool.{true≢false, false≢true}
-use Rattle.point.specs.declared.ends.Ends.{Ends}
+use Rattle.std.proofs.Common.{rules}
+use Rattle.std.proofs.lemmas.Iterator.{cases_from_all, YieldsList-from_slice}
+use Rattle.std.proofs.lemmas.Iterator.Search.{true_from_All}
+use Rattle.std.proofs.lemmas.List.Elements.{All-from_recursion, recursion_from_All, All-from_all_within}
 use Rattle.point.specs.Rows.{Fits}
 use Rattle.point.proofs.working.all_fitting.Goals as goal
 
-abbrev nil : Ends
-nil = record { low = pos 0; high = pos 0 }
-
-pub returns-then-not-fitting : goal.returns-then-not-fitting
-returns-then-not-fitting g c = record {
-  yes = λ e. absurd (false≢true e);
-  no = λ _ all. c.fitting.ensures.no c.if-not-fitting.true (All-get_or (Fits g.V.Value.kind) c.args.rows.now c.loop-row.row-index nil c.loop-row-test.true all);
-}
-
-pub loop-row-preserved : goal.loop-row-preserved
-loop-row-preserved g c = All-more (Fits g.V.Value.kind) c.args.rows.now c.loop-row.row-index nil c.loop-row-test.true c.loop-row.invariant (c.fitting.ensures.yes c.if-not-fitting.false)
-
 pub returns : goal.returns
-returns g c = record { yes = λ _. subst (AllByRecursion (Fits g.V.Value.kind)) (take_all c.loop-row.row-index c.args.rows.now c.loop-row-test.false) c.loop-row.invariant; no = λ e. absurd (true≢false e) }
+returns g c =
+    let P = Fits g.V.Value.kind in
+    let rows = c.args.rows.now in
+    let cases = cases_from_all _ _ _ P (λ e. ¬ P e) c.all.ensures.ran (YieldsList-from_slice rows cc) (λ x q h. search rules) (λ x q h. search rules) in
+    (λ h. recursion_from_All P rows (All-from_all_within P rows (rw h at cases)), λ h. true_from_All P (λ e. ¬ P e) _ rows (λ x p n. n p) cases (All-from_recursion P rows h))

@@ -7,14 +7,14 @@ returns g c = record {
   holds = λ xs h.
       let k = g.V.Value.kind in
       let level = c.mean_level-level.ensures.holds xs h in
-      let d = c.deviate-deviations.ensures.holds xs h level in
+      let d = c.of-deviations.ensures.holds xs h level in
       let n = sym (held_length h) in
-      let m = n ∙ sym c.deviate-deviations.ensures.passes in
-      let s0 = c.mean_scatter-of_mean.ensures.holds k xs m d in
+      let m = n ∙ sym c.of-deviations.ensures.passes in
+      let s0 = c.of_mean-of_mean.ensures.holds k xs m d in
       record {
         mean = value_holds k _ _ _ _ _ c.lowered-mean.ensures.low c.lowered-mean.ensures.high level;
         level = level;
-        scatter = c.scattered.ensures.holds k xs m d;
+        scatter = c.scatter.ensures.holds k xs m d;
         of_mean = s0;
         random = c.random_limit.ensures.holds k xs n s0;
       };

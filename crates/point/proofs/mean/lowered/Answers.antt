@@ -1,6 +1,0 @@
-use Rattle.std.proofs.Common.{arith}
-use Rattle.std.proofs.lemmas.Int.{ints}
-use Rattle.point.proofs.mean.lowered.Goals as goal
-
-pub returns : goal.returns
-returns g c = record { low = omega (arith, ints); high = omega (arith, ints) }

@@ -124,12 +124,3 @@ floor_fits n d o h = let l = floor_most (100000000 * n) d 100000000000000000 o (
 
 pub ceil_fits : (n d : ℕ) → 0 < d → n ≤ 1000000000 * d → ceiling (100000000 * n) d < 2 ^ 63
 ceil_fits n d o h = let l = ceil_most (100000000 * n) d 100000000000000000 o (omega arith) in omega arith
-
--- the library's quotient rounded up
-pub div_ceil_ceiling : (n d : ℕ) → 0 < d → div_ceil n d ≡ ceiling n d
-div_ceil_ceiling n d o =
-    let f = div_ceil_times n d o in
-    let g = ceil_over n d o in
-    let up : div_ceil n d * d < (ceiling n d + 1) * d = omega (arith, f.1, g.0) in
-    let down : ceiling n d * d < (div_ceil n d + 1) * d = omega (arith, f.0, g.1) in
-    omega (arith, lt_of_mul-lt-mul_right d up, lt_of_mul-lt-mul_right d down)

@@ -5,7 +5,7 @@ ghost use Rattle.exact.specs.Figures.{number};
 ghost use Rattle.exact.specs.Pairs.{Holds, steps};
 ghost use Rattle.pass.specs.Kinds.{Kind};
 ghost use Rattle.point.specs.Points.{mean as exact_mean, scatter as exact_scatter, of_mean as exact_of_mean, random as exact_random};
-ghost use Rattle.point.specs.Levels.{raise, level as level_of};
+ghost use Rattle.point.specs.Levels.{level as level_of};
 ghost use Rattle.point.specs.Deviations.{Deviates};
 ghost use Rattle.point.specs.Rows.{Held};
 ghost use Rattle.point.specs.Outcomes.{Workable};
@@ -14,6 +14,7 @@ use crate::bounds::Bounds;
 use crate::deviations::spread;
 use crate::ends::Ends;
 use crate::level::Level;
+use crate::mean::lowered;
 use crate::roots::{root_ceil, root_floor};
 use crate::statistic::Statistic;
 use crate::student::quantile;
@@ -41,16 +42,15 @@ pub(crate) struct Deviations {
 }
 
 impl Deviations {
-    /// The squared deviations of a point's values, from its mean and the mean's pair near 1.
-    pub(crate) fn of<V: Statistic>(rows: &[Ends], mean: Pair, level: Level) -> Deviations
-        requires rows { Workable V.Value.kind rows.now }
-        requires lowered { (mean.low +ℤ pos (raise V.Value.kind) ≡ pos level.low) × (mean.high +ℤ pos (raise V.Value.kind) ≡ pos level.high) }
+    /// The squared deviations of a point's values, from its mean near 1.
+    pub(crate) fn of<V: Statistic>(rows: &[Ends], level: Level) -> Deviations
+        requires { Workable V.Value.kind rows.now }
         ensures passes { result.passes ≡ length rows.now }
         ensures holds { (xs : List Fraction) → Held rows.now xs → Holds steps (pos level.low) (pos level.high) (number (level_of V.Value.kind (exact_mean xs))) → Deviates V.Value.kind xs result.squares.low result.squares.high result.divisor.low result.divisor.high }
     {
         Deviations {
             squares: spread::<V>(rows, level),
-            divisor: V::divisor(mean),
+            divisor: V::divisor(lowered::<V>(level)),
             passes: rows.len() as u64,
         }
     }

@@ -17,11 +17,10 @@ pub fn work<V: Statistic>(rows: &[Ends]) -> Point
     ensures holds { (xs : List Fraction) → Held rows.now xs → PointHolds V.Value.kind xs result }
 {
     let level = mean_level::<V>(rows);
-    let mean = lowered::<V>(level);
-    let deviations = Deviations::of::<V>(rows, mean, level);
+    let deviations = Deviations::of::<V>(rows, level);
     let of_mean = deviations.of_mean();
     Point {
-        mean,
+        mean: lowered::<V>(level),
         level,
         scatter: deviations.scatter(),
         of_mean,

@@ -12,7 +12,7 @@ returns g c = record {
       let m = n ∙ sym c.of-deviations.ensures.passes in
       let s0 = c.of_mean-of_mean.ensures.holds k xs m d in
       record {
-        mean = value_holds k _ _ _ _ _ c.lowered-mean.ensures.low c.lowered-mean.ensures.high level;
+        mean = value_holds k _ _ _ _ _ c.lowered.ensures.low c.lowered.ensures.high level;
         level = level;
         scatter = c.scatter.ensures.holds k xs m d;
         of_mean = s0;

@@ -5,7 +5,7 @@ use Rattle.point.proofs.scatter.Deviations.of.Goals as goal
 
 pub invariant_of-result-clause-narrow : goal.invariant_of-result-clause-narrow
 invariant_of-result-clause-narrow g c = λ u s.
-    rw (c.spread.ensures.low, c.spread.ensures.high) (all_stretched u s g.V.Value.kind c.args.rows.now c.args.level.low c.args.level.high c.args.level.narrow c.requires.rows.fits)
+    rw (c.spread.ensures.low, c.spread.ensures.high) (all_stretched u s g.V.Value.kind c.args.rows.now c.args.level.low c.args.level.high c.args.level.narrow c.requires.fits)
 
 pub returns-clause-holds : goal.returns-clause-holds
 returns-clause-holds g c = λ xs h m.
@@ -13,8 +13,8 @@ returns-clause-holds g c = λ xs h m.
     let rows = c.args.rows.now in
     let level = c.args.level in
     record {
-      over = rw c.spread.ensures.low (spread_least k rows xs _ level.low level.high level.ranged.1 c.requires.rows.fits h m);
-      under = rw c.spread.ensures.high (spread_most k rows xs _ level.low level.high c.requires.rows.fits h m);
-      floor = rw c.divisor.ensures.low (against_least k c.args.mean.low level.low _ c.requires.lowered.0 m.least);
-      top = rw c.divisor.ensures.high (against_most k c.args.mean.high level.high _ c.requires.lowered.1 m.most);
+      over = rw c.spread.ensures.low (spread_least k rows xs _ level.low level.high level.ranged.1 c.requires.fits h m);
+      under = rw c.spread.ensures.high (spread_most k rows xs _ level.low level.high c.requires.fits h m);
+      floor = rw c.divisor.ensures.low (against_least k c.lowered.result.low level.low _ c.lowered.ensures.low m.least);
+      top = rw c.divisor.ensures.high (against_most k c.lowered.result.high level.high _ c.lowered.ensures.high m.most);
     }

@@ -1,10 +1,9 @@
 -- The thermal part of the exponential liquid: e(−bΔ(1 + 0.8bΔ)) in whole units of 10⁻¹².
 -- Here y is the size of bΔ in units and s that of 0.8(bΔ)²; exactly they are N/M and 8N²/(10M²).
-use Rattle.std.specs.Prelude.{◌≡◌, ℕ, ◌+◌, ◌-◌, ◌*◌, ◌<◌, ◌≤◌, true, false, ℤ, pos, ◌+ℤ◌, ◌-ℤ◌, nat_le, refl}
-use Rattle.std.proofs.Common.{sym, subst, inl, inr, arith, mul-pos, mul-le-mul, mul-le-mul_left, mul-le-mul_right, le_of_mul-le-mul_right, lit<}
+use Rattle.std.specs.Prelude.{◌≡◌, ℕ, ◌+◌, ◌-◌, ◌*◌, ◌<◌, ◌≤◌, ℤ, pos, ◌+ℤ◌, ◌-ℤ◌, nat_le, refl}
+use Rattle.std.proofs.Common.{arith, leb-true, leb-false, mul-pos, mul-le-mul, mul-le-mul_left, mul-le-mul_right, le_of_mul-le-mul_right, lit<}
 use Rattle.std.proofs.lemmas.Int.{ints}
-use Rattle.std.proofs.lemmas.Bool.{cases_lt}
-use Rattle.std.proofs.lemmas.Bool.Decides.{nat_tests}
+use Rattle.std.proofs.lemmas.Bool.{cond_both}
 use Rattle.exact.specs.Fractions.{Fraction, nat, add, neg, sub, mul}
 use Rattle.exact.specs.Pairs.{parts}
 use Rattle.exact.proofs.Worth.{Worth, worth_nat, worth_add, worth_neg, worth_mul, worth_of}
@@ -227,19 +226,11 @@ thermal_cold l t n h i =
     thermal_rising (neg (mul (expanded (figures l) t) (add (nat 1) (mul (parts 10 (pos 8)) (expanded (figures l) t))))) (straight l n - bent (straight l n)) (omega arith)
     (record { top = slope l * away n * (10 * (10000000000 * (l.density.hundredths * l.density.hundredths)) - 8 * (slope l * away n)); bottom = 10000000000 * (l.density.hundredths * l.density.hundredths) * (10 * (10000000000 * (l.density.hundredths * l.density.hundredths))); worth = bend_cold (expanded (figures l) t) (slope l * away n) (10000000000 * (l.density.hundredths * l.density.hundredths)) (10 * (10000000000 * (l.density.hundredths * l.density.hundredths)) - 8 * (slope l * away n)) is w; least = s.0; most = s.1 })
 
-pub warm_units : (l : Exponential) (n : ℕ) → 2500 ≤ n → thermal_units l n ≡ falling (straight l n + bent (straight l n))
-unfolding thermal_units
-warm_units l n h = let s : nat_le 2500 n ≡ true = grind (arith, nat_tests) in rw s refl
-
-pub cold_units : (l : Exponential) (n : ℕ) → n < 2500 → thermal_units l n ≡ rising (straight l n - bent (straight l n))
-unfolding thermal_units
-cold_units l n h = let s : nat_le 2500 n ≡ false = grind (arith, nat_tests) in rw s refl
-
 pub thermal_is : (l : Exponential) (t : ℤ) (n : ℕ) → n ≤ 6000 → t +ℤ pos 1000 ≡ pos n → Thermal (thermal_units l n) (thermal (figures l) t)
-thermal_is l t n k i = elim (cases_lt n 2500) [
-  | inl h ↦ subst (λ (u : ℕ). Thermal u (thermal (figures l) t)) (sym (cold_units l n h)) (thermal_cold l t n h i)
-  | inr h ↦ subst (λ (u : ℕ). Thermal u (thermal (figures l) t)) (sym (warm_units l n h)) (thermal_warm l t n h k i)
-]
+unfolding thermal_units
+thermal_is l t n k i =
+    cond_both (nat_le 2500 n) (falling (straight l n + bent (straight l n))) (rising (straight l n - bent (straight l n))) (λ (u : ℕ). Thermal u (thermal (figures l) t))
+    (λ h. thermal_warm l t n (leb-true 2500 n h) k i) (λ h. thermal_cold l t n (leb-false 2500 n h) i)
 
 -- what the program asks of them
 pub straight_small : (l : Exponential) (n : ℕ) → n ≤ 6000 → straight l n ≤ 70000000000

@@ -76,7 +76,7 @@ impl Exponential {
     }
 
     /// e(−bΔ(1 + 0.8bΔ)).
-    #[tactic(auto, using(crate::specs::Thermals::warm_units, crate::specs::Thermals::cold_units, crate::specs::Thermals::warm_range, crate::specs::Thermals::cold_range))]
+    #[tactic(auto, using(crate::specs::Thermals::warm_range, crate::specs::Thermals::cold_range), unfolding(crate::specs::Rounded::thermal_units))]
     fn thermal(&self, temperature: Temperature) -> u128
         ensures value { result ≡ thermal_units self.now temperature.raised }
         ensures range { (926000000000 ≤ result) × (result ≤ 1053000000000) }
@@ -99,7 +99,7 @@ impl Exponential {
     }
 
     /// 1,000·g.
-    #[tactic(auto, using(crate::specs::Elastics::above_exponential, crate::specs::Elastics::below_exponential, crate::specs::Elastics::above_small, crate::specs::Elastics::below_small))]
+    #[tactic(auto, using(crate::specs::Elastics::above_small, crate::specs::Elastics::below_small), unfolding(crate::specs::Rounded::compressibility_units))]
     fn compressibility(&self, temperature: Temperature) -> u128
         ensures value { result ≡ compressibility_units self.now temperature.raised }
     {

@@ -123,7 +123,7 @@ impl Exponential {
     }
 
     /// The carry factor in steps, rounded down.
-    #[tactic(auto, using(crate::specs::Exponentials::product_most, crate::specs::Exponentials::factor_positive, crate::specs::Exponentials::steps_range, crate::specs::Exponentials::parts_at), unfolding(crate::specs::Rounded::carried))]
+    #[tactic(auto, using(crate::specs::Exponentials::product_most, crate::specs::Exponentials::factor_positive, crate::specs::Exponentials::steps_range), unfolding(crate::specs::Rounded::carried))]
     fn carried(&self, at: &Conditions) -> u64
         ensures value { result ≡ carried_of self.now at.now.densitometer_temperature.raised at.now.densitometer_pressure.kilopascals at.now.wall_temperature.raised at.now.vessel_pressure.kilopascals }
         ensures range { (83900000 ≤ result) × (result ≤ 119100000) }

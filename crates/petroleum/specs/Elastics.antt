@@ -16,7 +16,6 @@ use Rattle.petroleum.specs.Exponential.{Figures, figures, density_squared, compr
 use Rattle.petroleum.specs.Rounded.{rising, falling, over_density_lem, beside_density_lem, elastic_rising, elastic_falling, compressibility_units, elastic_units}
 use Rattle.petroleum.specs.declared.exponential.Exponential.{Exponential}
 use Rattle.liquid.specs.Readings.{parts_worth, degrees_worth, megapascals_worth}
-use Rattle.petroleum.specs.Thermals.{close_near}
 use Rattle.petroleum.specs.Openings.{squared_worth, square_least, square_most}
 
 -- the exponent's worth
@@ -90,7 +89,7 @@ module _ (l : Exponential) (t : ℤ) (n : ℕ) (warm : n ≤ 6000) (at : t +ℤ 
   above_exponent h =
       let W = 16229592000 - 21592 * n in
       let U = 8288680000 + 420920 * n in
-      let b = (l.density.hundredths * l.density.hundredths) in
+      let b = l.density.hundredths * l.density.hundredths in
       let o = over_under l n in
       let k = beside_is n in
       let is : W + 21592 * n ≡ 16229592000 = omega arith in
@@ -103,7 +102,7 @@ module _ (l : Exponential) (t : ℤ) (n : ℕ) (warm : n ≤ 6000) (at : t +ℤ 
   below_exponent h =
       let W = 16229592000 - 21592 * n in
       let U = 8288680000 + 420920 * n in
-      let b = (l.density.hundredths * l.density.hundredths) in
+      let b = l.density.hundredths * l.density.hundredths in
       let o = over_under l n in
       let k = beside_is n in
       let is : W + 21592 * n ≡ 16229592000 = omega arith in
@@ -134,16 +133,13 @@ pub record Compressibility (units : ℕ) (x : Fraction) : Type 0 where
 compressibility_rises : (x : Fraction) (size : ℕ) → size ≤ 1400000000000 → Near 4 size x → Compressibility (rising size) (e x)
 unfolding rising
 compressibility_rises x size h n =
-    let s = sized size (omega arith) in
-    let m = sums_most size (terms size 9).even (terms size 9).odd h s in
-    record { near = close_near ((terms size 9).even + (terms size 9).odd) (omega arith) (omega (arith, s.least, s.odd_least)) (sum_rising x size (omega arith) n); most = m }
+    record { near = sum_rising x size (omega arith) n; most = sums_most size (terms size 9).even (terms size 9).odd h (sized size (omega arith)) }
 
 compressibility_falls : (x : Fraction) (size : ℕ) → size ≤ 1050000000000 → Near 4 size (neg x) → Compressibility (falling size) (e x)
 unfolding falling
 compressibility_falls x size h n =
-    let l = odd_less size h in
     let m = sums_most size (terms size 9).even (terms size 9).odd (omega arith) (sized size (omega arith)) in
-    record { near = close_near ((terms size 9).even - (terms size 9).odd) (omega arith) (omega arith) (sum_falling x size (omega arith) n); most = omega arith }
+    record { near = sum_falling x size h n; most = omega arith }
 
 compressibility_is : (l : Exponential) (t : ℤ) (n : ℕ) → n ≤ 6000 → t +ℤ pos 1000 ≡ pos n → Compressibility (compressibility_units l n) (e (compression_exponent (figures l) t))
 unfolding compressibility_units

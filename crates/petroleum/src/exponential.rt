@@ -1,4 +1,5 @@
 // The exponential liquid: its opening, and its carry factor worked out in whole units of 10⁻¹².
+// A temperature is in 0.01 °C above −10 °C, so that 15 °C is 2,500.
 ghost use Rattle.std.specs.Prelude.{◌≡◌, ◌+◌, ◌*◌, ◌≤◌, true, false, MatchOption};
 
 use crate::coefficients::{Coefficients, downward, square};

@@ -1,5 +1,5 @@
 -- Whole units of 10⁻¹² near an exact number: by how many units they may differ, through products, quotients and sums.
-use Rattle.std.proofs.Common.{◌≡◌, ℕ, ◌+◌, ◌*◌, ◌<◌, ◌≤◌, mul-pos, mul-le-mul_left, mul-le-mul_right, arith}
+use Rattle.std.proofs.Common.{◌≡◌, ℕ, ◌+◌, ◌-◌, ◌*◌, ◌<◌, ◌≤◌, refl, mul-pos, mul-le-mul_left, mul-le-mul_right, arith}
 use Rattle.exact.specs.Fractions.{Fraction, Same, nat, add, neg, mul, div}
 use Rattle.exact.proofs.Worth.{Worth, worth_nat, worth_add, worth_mul, worth_div, worth_of}
 
@@ -119,3 +119,27 @@ close_less {d} {f} {p} {m} {t} x h i = record {
   least = less_least p m t h.plus h.minus h.bottom i.top i.bottom d f h.least i.most;
   most = less_most p m t h.plus h.minus h.bottom i.top i.bottom d f h.most i.least;
 }
+
+-- units that stay above 0 after what is taken away
+near_n : (d p m a P M b : ℕ) → m + a ≡ p → M ≤ P → p * b + 1000000000000 * M ≤ 1000000000000 * P + m * b + d * b → 1000000000000 * P + m * b ≤ p * b + 1000000000000 * M + d * b
+    → (a * b ≤ 1000000000000 * (P - M) + d * b) × (1000000000000 * (P - M) ≤ a * b + d * b)
+near_n d p m a P M b s o h k =
+    let t : (m + a) * b ≡ p * b = rw s refl in
+    (omega arith, omega arith)
+
+pub close_near : {d p m : ℕ} {x : Fraction} (a : ℕ) → m + a ≡ p → d ≤ a → Close d p m x → Near d a x
+close_near {d} {p} {m} {x} a s l c =
+    let t : (m + a) * c.bottom ≡ p * c.bottom = rw s refl in
+    let u : d * c.bottom ≤ a * c.bottom = mul-le-mul_right c.bottom l in
+    let o : c.minus ≤ c.plus = omega (arith, c.least) in
+    let n = near_n d p m a c.plus c.minus c.bottom s o c.least c.most in
+    record {
+      top = c.plus - c.minus;
+      bottom = c.bottom;
+      worth = worth_of c.worth c.worth.positive (go c.plus c.minus c.bottom o);
+      least = n.0;
+      most = n.1;
+    }
+  where
+    go : (p m b : ℕ) → m ≤ p → p * b + 0 * b ≡ (p - m) * b + m * b
+    go p m b h = let e : p ≡ (p - m) + m = omega arith in let f : p * b ≡ ((p - m) + m) * b = rw (← e) refl in omega arith

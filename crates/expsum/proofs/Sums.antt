@@ -1,11 +1,11 @@
 -- The sum of the terms in whole units is near the exact sum.
-use Rattle.std.proofs.Common.{◌≡◌, ℕ, zero, suc, ◌+◌, ◌*◌, ◌<◌, ◌≤◌, refl, sym, subst, mul-pos, zero-lt-suc, zero-add, lit<, arith}
+use Rattle.std.proofs.Common.{◌≡◌, ℕ, zero, suc, ◌+◌, ◌-◌, ◌*◌, ◌<◌, ◌≤◌, refl, sym, subst, mul-pos, zero-lt-suc, zero-add, lit<, arith}
 use Rattle.exact.specs.Fractions.{Fraction, Same, nat, add, neg, mul, div}
 use Rattle.exact.proofs.Worth.{worth_itself, worth_nat, worth_neg, worth_mul, worth_div, worth_same}
 use Rattle.expsum.specs.Series.{power, factorial, term, series, e}
 use Rattle.expsum.specs.Terms.{next_term_lem, Terms, first_terms, more_terms, terms}
-use Rattle.expsum.proofs.Near.{Near, Close, near_same, close_same, near_step, close_wider, near_close, close_more, close_less}
-use Rattle.expsum.proofs.Bounds.{next_under, halved, last_most}
+use Rattle.expsum.proofs.Near.{Near, Close, near_same, close_same, near_step, close_wider, near_close, close_more, close_less, close_near}
+use Rattle.expsum.proofs.Bounds.{next_under, halved, last_most, sized, odd_less}
 
 factorial_positive : (k : ℕ) → 0 < factorial k
 unfolding factorial
@@ -159,10 +159,14 @@ falling x size (suc j) s n =
     subst (λ (t : Terms). Falling x size (suc j) t) (sym (terms_more size j)) (falling_turn x size j (terms size j) s (last_most size j (terms size j).last s refl) n (falling x size j s n))
 
 -- e(x) for an argument that is not negative, and for one that is not positive
-pub sum_rising : (x : Fraction) (size : ℕ) → size ≤ 1500000000000 → Near 4 size x → Close 400 ((terms size 9).even + (terms size 9).odd) 0 (e x)
+pub sum_rising : (x : Fraction) (size : ℕ) → size ≤ 1500000000000 → Near 4 size x → Near 400 ((terms size 9).even + (terms size 9).odd) (e x)
 unfolding e
-sum_rising x size s n = (rising x size 9 s n).sum
+sum_rising x size s n =
+    let z = sized size s in
+    close_near ((terms size 9).even + (terms size 9).odd) (omega arith) (omega (arith, z.least, z.odd_least)) (rising x size 9 s n).sum
 
-pub sum_falling : (x : Fraction) (size : ℕ) → size ≤ 1500000000000 → Near 4 size (neg x) → Close 400 (terms size 9).even (terms size 9).odd (e x)
+pub sum_falling : (x : Fraction) (size : ℕ) → size ≤ 1050000000000 → Near 4 size (neg x) → Near 400 ((terms size 9).even - (terms size 9).odd) (e x)
 unfolding e
-sum_falling x size s n = (falling x size 9 s n).sum
+sum_falling x size s n =
+    let l = odd_less size s in
+    close_near ((terms size 9).even - (terms size 9).odd) (omega arith) (omega arith) (falling x size 9 (omega arith) n).sum

@@ -36,6 +36,7 @@ impl Linear {
     }
 
     /// βt + γP, in tenths of a step.
+    #[tactic(auto, using(crate::specs::Linears::parts_most))]
     fn change(&self, temperature: Temperature, pressure: Pressure) -> u64
         ensures value { result ≡ 10 * self.now.expansion * temperature.raised + self.now.compressibility * pressure.kilopascals }
         ensures most { result ≤ 170000000 }

@@ -1,9 +1,9 @@
 -- The test of b, in whole numbers: b times 10⁸r², where r is in 0.01 kg/m³.
-use Rattle.std.specs.Prelude.{◌≡◌, ℕ, ◌+◌, ◌*◌, ◌<◌, ◌≤◌, true, false, ◌&&◌, leb, pos, neg_ℤ, nat_le, refl}
-use Rattle.std.proofs.Common.{sym, ◌∙◌, inl, inr, arith, mul-le-mul, lit<}
+use Rattle.std.specs.Prelude.{◌≡◌, ℕ, ◌+◌, ◌*◌, ◌<◌, ◌≤◌, ◌&&◌, pos, neg_ℤ, nat_le, refl}
+use Rattle.std.proofs.Common.{◌∙◌, inl, inr, arith, mul-le-mul, lit<}
 use Rattle.std.proofs.lemmas.Bool.{cases_lt}
 use Rattle.std.proofs.lemmas.Bool.Decides.{nat_tests}
-use Rattle.exact.specs.Fractions.{Fraction, Le, Lt}
+use Rattle.exact.specs.Fractions.{Fraction}
 use Rattle.exact.specs.Pairs.{parts}
 use Rattle.exact.proofs.Worth.{Worth, worth_le, worth_lt}
 use Rattle.liquid.specs.Readings.{parts_worth}
@@ -17,48 +17,25 @@ above_most r k0 k1 h i k = let a : k1 * r ≤ 10000 * 120000 = mul-le-mul k h in
 pub below_most : (r k2 : ℕ) → r ≤ 120000 → k2 ≤ 340000 → k2 * (r * r) ≤ 4896000000000000
 below_most r k2 h k = let a : k2 * (r * r) ≤ 340000 * 14400000000 = mul-le-mul k (square_most r h) in omega arith
 
--- the tests of b, on its worth
-test_true : {x y : Fraction} → Le x y → no_more x y ≡ true
-test_true {x} {y} h = let l = h.le in grind (arith, nat_tests)
-
-test_false : {x y : Fraction} → Lt y x → no_more x y ≡ false
-test_false {x} {y} h = let l = h.lt in grind (arith, nat_tests)
-
--- the test against a worth, as one of naturals
+-- the test of two numbers on their worths, as one of naturals
 test_is : {x y : Fraction} {p m b q n c : ℕ} → Worth x p m b → Worth y q n c → no_more x y ≡ nat_le (p * c + n * b) (q * b + m * c)
 test_is {x} {y} {p} {m} {b} {q} {n} {c} h k = elim (cases_lt (q * b + m * c) (p * c + n * b)) [
-  | inl l ↦ test_false (worth_lt k h (omega arith)) ∙ (let s : leb (p * c + n * b) (q * b + m * c) ≡ false = grind (arith, nat_tests) in sym s)
-  | inr l ↦ test_true (worth_le h k l) ∙ (let s : leb (p * c + n * b) (q * b + m * c) ≡ true = grind (arith, nat_tests) in sym s)
+  | inl l ↦ (let w = (worth_lt k h (omega arith)).lt in grind (arith, nat_tests))
+  | inr l ↦ (let w = (worth_le h k l).le in grind (arith, nat_tests))
 ]
 
--- two tests that hold together are one
-same_test : (a b c d : ℕ) → (a ≤ b → c ≤ d) → (c ≤ d → a ≤ b) → nat_le a b ≡ nat_le c d
-same_test a b c d h k = elim (cases_lt b a) [
-  | inl l ↦ (let s : leb a b ≡ false = grind (arith, nat_tests) in let t : leb c d ≡ false = elim (cases_lt d c) [ inl m ↦ grind (arith, nat_tests) | inr m ↦ absurd (let z = k m in omega arith) ] in s ∙ sym t)
-  | inr l ↦ (let s : leb a b ≡ true = grind (arith, nat_tests) in let z = h l in let t : leb c d ≡ true = grind (arith, nat_tests) in s ∙ sym t)
-]
-
-pub least_is : (r k0 k1 k2 : ℕ) → 0 < r → no_more (parts 10000 (pos 1)) (expansion_at_15 (record { density = pos r; k0 = pos k0; k1 = pos k1; k2 = neg_ℤ (pos k2) })) ≡ nat_le (10000 * (r * r) + k2 * (r * r)) (100000000 * k0 + 1000000 * k1 * r)
-least_is r k0 k1 k2 o =
-    test_is (parts_worth 10000 1 (lit< tt)) (expansion_worth r k0 k1 k2 o)
-    ∙ same_test _ _ (10000 * (r * r) + k2 * (r * r)) (100000000 * k0 + 1000000 * k1 * r) (go (r * r) (100000000 * k0 + 1000000 * k1 * r) (k2 * (r * r))) (back (r * r) (100000000 * k0 + 1000000 * k1 * r) (k2 * (r * r)))
+-- and against the two ends of its range
+least_is : (r k0 k1 k2 : ℕ) → 0 < r → no_more (parts 10000 (pos 1)) (expansion_at_15 (record { density = pos r; k0 = pos k0; k1 = pos k1; k2 = neg_ℤ (pos k2) })) ≡ nat_le (10000 * (r * r) + k2 * (r * r)) (100000000 * k0 + 1000000 * k1 * r)
+least_is r k0 k1 k2 o = test_is (parts_worth 10000 1 (lit< tt)) (expansion_worth r k0 k1 k2 o) ∙ go (r * r) (100000000 * k0 + 1000000 * k1 * r) (k2 * (r * r))
   where
-    go : (s a b : ℕ) → 1 * (100000000 * s) + b * 10000 ≤ a * 10000 + 0 * (100000000 * s) → 10000 * s + b ≤ a
-    go s a b h = omega arith
+    go : (s a b : ℕ) → nat_le (1 * (100000000 * s) + b * 10000) (a * 10000 + 0 * (100000000 * s)) ≡ nat_le (10000 * s + b) a
+    go s a b = grind (arith, nat_tests)
 
-    back : (s a b : ℕ) → 10000 * s + b ≤ a → 1 * (100000000 * s) + b * 10000 ≤ a * 10000 + 0 * (100000000 * s)
-    back s a b h = omega arith
-
-pub most_is : (r k0 k1 k2 : ℕ) → 0 < r → no_more (expansion_at_15 (record { density = pos r; k0 = pos k0; k1 = pos k1; k2 = neg_ℤ (pos k2) })) (parts 1000 (pos 2)) ≡ nat_le (100000000 * k0 + 1000000 * k1 * r) (200000 * (r * r) + k2 * (r * r))
-most_is r k0 k1 k2 o =
-    test_is (expansion_worth r k0 k1 k2 o) (parts_worth 1000 2 (lit< tt))
-    ∙ same_test _ _ (100000000 * k0 + 1000000 * k1 * r) (200000 * (r * r) + k2 * (r * r)) (go (r * r) (100000000 * k0 + 1000000 * k1 * r) (k2 * (r * r))) (back (r * r) (100000000 * k0 + 1000000 * k1 * r) (k2 * (r * r)))
+most_is : (r k0 k1 k2 : ℕ) → 0 < r → no_more (expansion_at_15 (record { density = pos r; k0 = pos k0; k1 = pos k1; k2 = neg_ℤ (pos k2) })) (parts 1000 (pos 2)) ≡ nat_le (100000000 * k0 + 1000000 * k1 * r) (200000 * (r * r) + k2 * (r * r))
+most_is r k0 k1 k2 o = test_is (expansion_worth r k0 k1 k2 o) (parts_worth 1000 2 (lit< tt)) ∙ go (r * r) (100000000 * k0 + 1000000 * k1 * r) (k2 * (r * r))
   where
-    go : (s a b : ℕ) → a * 1000 + 0 * (100000000 * s) ≤ 2 * (100000000 * s) + b * 1000 → a ≤ 200000 * s + b
-    go s a b h = omega arith
-
-    back : (s a b : ℕ) → a ≤ 200000 * s + b → a * 1000 + 0 * (100000000 * s) ≤ 2 * (100000000 * s) + b * 1000
-    back s a b h = omega arith
+    go : (s a b : ℕ) → nat_le (a * 1000 + 0 * (100000000 * s)) (2 * (100000000 * s) + b * 1000) ≡ nat_le a (200000 * s + b)
+    go s a b = grind (arith, nat_tests)
 
 -- the tests of b together
 pub expansive_is : (r k0 k1 k2 : ℕ) → 0 < r → expansive (record { density = pos r; k0 = pos k0; k1 = pos k1; k2 = neg_ℤ (pos k2) })

@@ -1,10 +1,9 @@
 -- The elastic part of the exponential liquid: 1 − gP in whole units of 10⁻¹².
 -- The exponent of 1,000·g is U/b − W/10¹⁰, where b is the density's square in its unit.
-use Rattle.std.specs.Prelude.{◌≡◌, ℕ, ◌+◌, ◌-◌, ◌*◌, ◌/◌, ◌<◌, ◌≤◌, true, false, ℤ, pos, ◌+ℤ◌, ◌-ℤ◌, nat_le, refl}
-use Rattle.std.proofs.Common.{sym, subst, ◌∙◌, inl, inr, arith, mul-pos, mul-le-mul, mul-le-mul_left, mul-le-mul_right, le_of_mul-le-mul_right, lit<}
+use Rattle.std.specs.Prelude.{◌≡◌, ℕ, ◌+◌, ◌-◌, ◌*◌, ◌/◌, ◌<◌, ◌≤◌, Bool, true, false, cond, ℤ, pos, ◌+ℤ◌, ◌-ℤ◌, nat_le, refl}
+use Rattle.std.proofs.Common.{sym, subst, arith, leb-true, leb-false, mul-pos, mul-le-mul, mul-le-mul_left, mul-le-mul_right, le_of_mul-le-mul_right, lit<}
 use Rattle.std.proofs.lemmas.Int.{ints}
-use Rattle.std.proofs.lemmas.Bool.{cases_lt}
-use Rattle.std.proofs.lemmas.Bool.Decides.{nat_tests}
+use Rattle.std.proofs.lemmas.Bool.{cond_both}
 use Rattle.exact.specs.Fractions.{Fraction, neg}
 use Rattle.exact.proofs.Worth.{Worth, worth_nat, worth_add, worth_neg, worth_mul, worth_div, worth_of}
 use Rattle.exact.proofs.Quotients.{floor_under}
@@ -17,7 +16,6 @@ use Rattle.petroleum.specs.Exponential.{Figures, figures, density_squared, compr
 use Rattle.petroleum.specs.Rounded.{rising, falling, over_density_lem, beside_density_lem, elastic_rising, elastic_falling, compressibility_units, elastic_units}
 use Rattle.petroleum.specs.declared.exponential.Exponential.{Exponential}
 use Rattle.liquid.specs.Readings.{parts_worth, degrees_worth, megapascals_worth}
-use Rattle.petroleum.specs.Thermals.{close_near}
 use Rattle.petroleum.specs.Openings.{squared_worth, square_least, square_most}
 
 -- the exponent's worth
@@ -91,7 +89,7 @@ module _ (l : Exponential) (t : ℤ) (n : ℕ) (warm : n ≤ 6000) (at : t +ℤ 
   above_exponent h =
       let W = 16229592000 - 21592 * n in
       let U = 8288680000 + 420920 * n in
-      let b = (l.density.hundredths * l.density.hundredths) in
+      let b = l.density.hundredths * l.density.hundredths in
       let o = over_under l n in
       let k = beside_is n in
       let is : W + 21592 * n ≡ 16229592000 = omega arith in
@@ -104,7 +102,7 @@ module _ (l : Exponential) (t : ℤ) (n : ℕ) (warm : n ≤ 6000) (at : t +ℤ 
   below_exponent h =
       let W = 16229592000 - 21592 * n in
       let U = 8288680000 + 420920 * n in
-      let b = (l.density.hundredths * l.density.hundredths) in
+      let b = l.density.hundredths * l.density.hundredths in
       let o = over_under l n in
       let k = beside_is n in
       let is : W + 21592 * n ≡ 16229592000 = omega arith in
@@ -135,40 +133,22 @@ pub record Compressibility (units : ℕ) (x : Fraction) : Type 0 where
 compressibility_rises : (x : Fraction) (size : ℕ) → size ≤ 1400000000000 → Near 4 size x → Compressibility (rising size) (e x)
 unfolding rising
 compressibility_rises x size h n =
-    let s = sized size (omega arith) in
-    let m = sums_most size (terms size 9).even (terms size 9).odd h s in
-    record { near = close_near ((terms size 9).even + (terms size 9).odd) (omega arith) (omega (arith, s.least, s.odd_least)) (sum_rising x size (omega arith) n); most = m }
+    record { near = sum_rising x size (omega arith) n; most = sums_most size (terms size 9).even (terms size 9).odd h (sized size (omega arith)) }
 
 compressibility_falls : (x : Fraction) (size : ℕ) → size ≤ 1050000000000 → Near 4 size (neg x) → Compressibility (falling size) (e x)
 unfolding falling
 compressibility_falls x size h n =
-    let l = odd_less size h in
     let m = sums_most size (terms size 9).even (terms size 9).odd (omega arith) (sized size (omega arith)) in
-    record { near = close_near ((terms size 9).even - (terms size 9).odd) (omega arith) (omega arith) (sum_falling x size (omega arith) n); most = omega arith }
-
-pub above_exponential : (l : Exponential) (n : ℕ) → beside_density_lem n ≤ over_density_lem l n → compressibility_units l n ≡ rising (over_density_lem l n - beside_density_lem n)
-unfolding compressibility_units
-above_exponential l n h = let s : nat_le (beside_density_lem n) (over_density_lem l n) ≡ true = grind (arith, nat_tests) in rw s refl
-
-pub below_exponential : (l : Exponential) (n : ℕ) → over_density_lem l n < beside_density_lem n → compressibility_units l n ≡ falling (beside_density_lem n - over_density_lem l n)
-unfolding compressibility_units
-below_exponential l n h = let s : nat_le (beside_density_lem n) (over_density_lem l n) ≡ false = grind (arith, nat_tests) in rw s refl
+    record { near = sum_falling x size h n; most = omega arith }
 
 compressibility_is : (l : Exponential) (t : ℤ) (n : ℕ) → n ≤ 6000 → t +ℤ pos 1000 ≡ pos n → Compressibility (compressibility_units l n) (e (compression_exponent (figures l) t))
-compressibility_is l t n k at = elim (cases_lt (over_density_lem l n) (beside_density_lem n)) [
-  | inl h ↦ (let s = below_exponent l t n k at h in subst (λ (u : ℕ). Compressibility u (e (compression_exponent (figures l) t))) (sym (below_exponential l n h)) (compressibility_falls (compression_exponent (figures l) t) (beside_density_lem n - over_density_lem l n) s.0 s.1))
-  | inr h ↦ (let s = above_exponent l t n k at h in subst (λ (u : ℕ). Compressibility u (e (compression_exponent (figures l) t))) (sym (above_exponential l n h)) (compressibility_rises (compression_exponent (figures l) t) (over_density_lem l n - beside_density_lem n) s.0 s.1))
-]
+unfolding compressibility_units
+compressibility_is l t n k at =
+    cond_both (nat_le (beside_density_lem n) (over_density_lem l n)) (rising (over_density_lem l n - beside_density_lem n)) (falling (beside_density_lem n - over_density_lem l n)) (λ (u : ℕ). Compressibility u (e (compression_exponent (figures l) t)))
+    (λ h. let s = above_exponent l t n k at (leb-true (beside_density_lem n) (over_density_lem l n) h) in compressibility_rises (compression_exponent (figures l) t) (over_density_lem l n - beside_density_lem n) s.0 s.1)
+    (λ h. let s = below_exponent l t n k at (leb-false (beside_density_lem n) (over_density_lem l n) h) in compressibility_falls (compression_exponent (figures l) t) (beside_density_lem n - over_density_lem l n) s.0 s.1)
 
 -- the answer from it, whichever way the exponent goes
-pub above_units : (l : Exponential) (n p : ℕ) → beside_density_lem n ≤ over_density_lem l n → elastic_units l n p ≡ elastic_rising (over_density_lem l n - beside_density_lem n) p
-unfolding elastic_units
-above_units l n p h = let s : nat_le (beside_density_lem n) (over_density_lem l n) ≡ true = grind (arith, nat_tests) in rw s refl
-
-pub below_units : (l : Exponential) (n p : ℕ) → over_density_lem l n < beside_density_lem n → elastic_units l n p ≡ elastic_falling (beside_density_lem n - over_density_lem l n) p
-unfolding elastic_units
-below_units l n p h = let s : nat_le (beside_density_lem n) (over_density_lem l n) ≡ false = grind (arith, nat_tests) in rw s refl
-
 rising_is : (size p : ℕ) → elastic_rising size p ≡ (1000000000000000000 - rising size * p) / 1000000
 unfolding elastic_rising
 rising_is size p = refl
@@ -185,10 +165,13 @@ falling_is size p h = go (terms size 9).even (terms size 9).odd (omega (arith, o
         rw g refl
 
 pub elastic_units_is : (l : Exponential) (n p : ℕ) → n ≤ 6000 → elastic_units l n p ≡ (1000000000000000000 - compressibility_units l n * p) / 1000000
-elastic_units_is l n p k = elim (cases_lt (over_density_lem l n) (beside_density_lem n)) [
-  | inl h ↦ rw (below_exponential l n h) (below_units l n p h ∙ falling_is (beside_density_lem n - over_density_lem l n) p (below_small l n k h))
-  | inr h ↦ rw (above_exponential l n h) (above_units l n p h ∙ rising_is (over_density_lem l n - beside_density_lem n) p)
-]
+unfolding elastic_units compressibility_units
+elastic_units_is l n p k =
+    go (nat_le (beside_density_lem n) (over_density_lem l n)) (over_density_lem l n - beside_density_lem n) (beside_density_lem n - over_density_lem l n) (λ h. below_small l n k (leb-false (beside_density_lem n) (over_density_lem l n) h))
+  where
+    go : (above : Bool) (y z : ℕ) → (above ≡ false → z ≤ 1050000000000) → cond above (elastic_rising y p) (elastic_falling z p) ≡ (1000000000000000000 - cond above (rising y) (falling z) * p) / 1000000
+    go true y z h = rising_is y p
+    go false y z h = falling_is z p (h refl)
 
 -- 1 − gP from e(z): P is the units of e(z), T/b, and G those of the answer, R/(10⁶b)
 taken_n : (P p T b : ℕ) → P ≤ 4360000000000 → p ≤ 10000 → 1000000000000 * T ≤ P * b + 400 * b → T * p ≤ 1000000 * b

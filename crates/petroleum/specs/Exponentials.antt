@@ -49,9 +49,6 @@ factor_least E G F H p =
     let b : F * G ≤ 1053000000000 * 1001000000000 = mul-le-mul p.f_most p.g_most in
     omega arith
 
-pub parts_at : {E G F H : ℕ} → (926000000000 ≤ E) × (E ≤ 1053000000000) → (956000000000 ≤ G) × (G ≤ 1001000000000) → (926000000000 ≤ F) × (F ≤ 1053000000000) → (956000000000 ≤ H) × (H ≤ 1001000000000) → Parts E G F H
-parts_at e g f h = record { e_least = e.0; e_most = e.1; g_least = g.0; g_most = g.1; f_least = f.0; f_most = f.1; h_least = h.0; h_most = h.1 }
-
 pub product_most : (E G F H : ℕ) → Parts E G F H → 100000000 * E * H ≤ 105405300000000000000000000000000
 product_most E G F H p =
     let a : E * H ≤ 1053000000000 * 1001000000000 = mul-le-mul p.e_most p.h_most in

@@ -1,17 +1,16 @@
 -- The thermal part of the exponential liquid: e(−bΔ(1 + 0.8bΔ)) in whole units of 10⁻¹².
 -- Here y is the size of bΔ in units and s that of 0.8(bΔ)²; exactly they are N/M and 8N²/(10M²).
-use Rattle.std.specs.Prelude.{◌≡◌, ℕ, ◌+◌, ◌-◌, ◌*◌, ◌<◌, ◌≤◌, true, false, ℤ, pos, ◌+ℤ◌, ◌-ℤ◌, nat_le, refl}
-use Rattle.std.proofs.Common.{sym, subst, inl, inr, arith, mul-pos, mul-le-mul, mul-le-mul_left, mul-le-mul_right, le_of_mul-le-mul_right, lit<}
+use Rattle.std.specs.Prelude.{◌≡◌, ℕ, ◌+◌, ◌-◌, ◌*◌, ◌<◌, ◌≤◌, ℤ, pos, ◌+ℤ◌, ◌-ℤ◌, nat_le, refl}
+use Rattle.std.proofs.Common.{arith, leb-true, leb-false, mul-pos, mul-le-mul, mul-le-mul_left, mul-le-mul_right, le_of_mul-le-mul_right, lit<}
 use Rattle.std.proofs.lemmas.Int.{ints}
-use Rattle.std.proofs.lemmas.Bool.{cases_lt}
-use Rattle.std.proofs.lemmas.Bool.Decides.{nat_tests}
+use Rattle.std.proofs.lemmas.Bool.{cond_both}
 use Rattle.exact.specs.Fractions.{Fraction, nat, add, neg, sub, mul}
 use Rattle.exact.specs.Pairs.{parts}
 use Rattle.exact.proofs.Worth.{Worth, worth_nat, worth_add, worth_neg, worth_mul, worth_of}
 use Rattle.exact.proofs.Quotients.{floor_under}
 use Rattle.expsum.specs.Series.{e}
 use Rattle.expsum.specs.Terms.{terms}
-use Rattle.expsum.proofs.Near.{Near, Close}
+use Rattle.expsum.proofs.Near.{Near}
 use Rattle.expsum.proofs.Bounds.{Sized, sized}
 use Rattle.expsum.proofs.Sums.{sum_rising, sum_falling}
 use Rattle.petroleum.specs.Exponential.{Figures, figures, expansion_at_15, expanded, thermal}
@@ -20,30 +19,6 @@ use Rattle.liquid.specs.Questions.{degrees}
 use Rattle.petroleum.specs.declared.exponential.Exponential.{Exponential}
 use Rattle.liquid.specs.Readings.{parts_worth, degrees_worth}
 use Rattle.petroleum.specs.Openings.{expansion_worth}
-
--- units that stay above 0 after what is taken away
-near_n : (d p m a P M b : ℕ) → m + a ≡ p → M ≤ P → p * b + 1000000000000 * M ≤ 1000000000000 * P + m * b + d * b → 1000000000000 * P + m * b ≤ p * b + 1000000000000 * M + d * b
-    → (a * b ≤ 1000000000000 * (P - M) + d * b) × (1000000000000 * (P - M) ≤ a * b + d * b)
-near_n d p m a P M b s o h k =
-    let t : (m + a) * b ≡ p * b = rw s refl in
-    (omega arith, omega arith)
-
-pub close_near : {d p m : ℕ} {x : Fraction} (a : ℕ) → m + a ≡ p → d ≤ a → Close d p m x → Near d a x
-close_near {d} {p} {m} {x} a s l c =
-    let t : (m + a) * c.bottom ≡ p * c.bottom = rw s refl in
-    let u : d * c.bottom ≤ a * c.bottom = mul-le-mul_right c.bottom l in
-    let o : c.minus ≤ c.plus = omega (arith, c.least) in
-    let n = near_n d p m a c.plus c.minus c.bottom s o c.least c.most in
-    record {
-      top = c.plus - c.minus;
-      bottom = c.bottom;
-      worth = worth_of c.worth c.worth.positive (go c.plus c.minus c.bottom o);
-      least = n.0;
-      most = n.1;
-    }
-  where
-    go : (p m b : ℕ) → m ≤ p → p * b + 0 * b ≡ (p - m) * b + m * b
-    go p m b h = let e : p ≡ (p - m) + m = omega arith in let f : p * b ≡ ((p - m) + m) * b = rw (← e) refl in omega arith
 
 -- b is the slope over 10⁸r²
 slope_is : (l : Exponential) → slope l + l.coefficients.minus_k2 * (l.density.hundredths * l.density.hundredths) ≡ 100000000 * l.coefficients.k0 + 1000000 * l.coefficients.k1 * l.density.hundredths
@@ -169,13 +144,13 @@ pub record Thermal (units : ℕ) (x : Fraction) : Type 0 where
   pub least : 926000000000 ≤ units
   pub most : units ≤ 1053000000000
 
-falling_range : (size even odd : ℕ) → size ≤ 73920000000 → Sized size even odd → (odd + (even - odd) ≡ even) × (926000000000 ≤ even - odd) × (even - odd ≤ 1053000000000)
+falling_range : (size even odd : ℕ) → size ≤ 73920000000 → Sized size even odd → (926000000000 ≤ even - odd) × (even - odd ≤ 1053000000000)
 falling_range size even odd h s =
     let a : size * size ≤ size * 73920000000 = mul-le-mul_left size h in
     let b = s.least in
     let c = s.odd_least in
     let d = s.most in
-    (omega arith, omega arith, omega arith)
+    (omega arith, omega arith)
 
 rising_range : (size even odd : ℕ) → size ≤ 50000000000 → Sized size even odd → (926000000000 ≤ even + odd) × (even + odd ≤ 1053000000000)
 rising_range size even odd h s =
@@ -188,16 +163,14 @@ rising_range size even odd h s =
 thermal_falling : (x : Fraction) (size : ℕ) → size ≤ 73920000000 → Near 4 size (neg x) → Thermal (falling size) (e x)
 unfolding falling
 thermal_falling x size h n =
-    let c = sum_falling x size (omega arith) n in
     let r = falling_range size (terms size 9).even (terms size 9).odd h (sized size (omega arith)) in
-    record { near = close_near ((terms size 9).even - (terms size 9).odd) r.0 (omega (arith, r.1)) c; least = r.1; most = r.2 }
+    record { near = sum_falling x size (omega arith) n; least = r.0; most = r.1 }
 
 thermal_rising : (x : Fraction) (size : ℕ) → size ≤ 50000000000 → Near 4 size x → Thermal (rising size) (e x)
 unfolding rising
 thermal_rising x size h n =
-    let c = sum_rising x size (omega arith) n in
     let r = rising_range size (terms size 9).even (terms size 9).odd h (sized size (omega arith)) in
-    record { near = close_near ((terms size 9).even + (terms size 9).odd) (omega arith) (omega (arith, r.0)) c; least = r.0; most = r.1 }
+    record { near = sum_rising x size (omega arith) n; least = r.0; most = r.1 }
 
 -- above 15 °C
 thermal_warm : (l : Exponential) (t : ℤ) (n : ℕ) → 2500 ≤ n → n ≤ 6000 → t +ℤ pos 1000 ≡ pos n → Thermal (falling (straight l n + bent (straight l n))) (thermal (figures l) t)
@@ -227,19 +200,11 @@ thermal_cold l t n h i =
     thermal_rising (neg (mul (expanded (figures l) t) (add (nat 1) (mul (parts 10 (pos 8)) (expanded (figures l) t))))) (straight l n - bent (straight l n)) (omega arith)
     (record { top = slope l * away n * (10 * (10000000000 * (l.density.hundredths * l.density.hundredths)) - 8 * (slope l * away n)); bottom = 10000000000 * (l.density.hundredths * l.density.hundredths) * (10 * (10000000000 * (l.density.hundredths * l.density.hundredths))); worth = bend_cold (expanded (figures l) t) (slope l * away n) (10000000000 * (l.density.hundredths * l.density.hundredths)) (10 * (10000000000 * (l.density.hundredths * l.density.hundredths)) - 8 * (slope l * away n)) is w; least = s.0; most = s.1 })
 
-pub warm_units : (l : Exponential) (n : ℕ) → 2500 ≤ n → thermal_units l n ≡ falling (straight l n + bent (straight l n))
-unfolding thermal_units
-warm_units l n h = let s : nat_le 2500 n ≡ true = grind (arith, nat_tests) in rw s refl
-
-pub cold_units : (l : Exponential) (n : ℕ) → n < 2500 → thermal_units l n ≡ rising (straight l n - bent (straight l n))
-unfolding thermal_units
-cold_units l n h = let s : nat_le 2500 n ≡ false = grind (arith, nat_tests) in rw s refl
-
 pub thermal_is : (l : Exponential) (t : ℤ) (n : ℕ) → n ≤ 6000 → t +ℤ pos 1000 ≡ pos n → Thermal (thermal_units l n) (thermal (figures l) t)
-thermal_is l t n k i = elim (cases_lt n 2500) [
-  | inl h ↦ subst (λ (u : ℕ). Thermal u (thermal (figures l) t)) (sym (cold_units l n h)) (thermal_cold l t n h i)
-  | inr h ↦ subst (λ (u : ℕ). Thermal u (thermal (figures l) t)) (sym (warm_units l n h)) (thermal_warm l t n h k i)
-]
+unfolding thermal_units
+thermal_is l t n k i =
+    cond_both (nat_le 2500 n) (falling (straight l n + bent (straight l n))) (rising (straight l n - bent (straight l n))) (λ (u : ℕ). Thermal u (thermal (figures l) t))
+    (λ h. thermal_warm l t n (leb-true 2500 n h) k i) (λ h. thermal_cold l t n (leb-false 2500 n h) i)
 
 -- what the program asks of them
 pub straight_small : (l : Exponential) (n : ℕ) → n ≤ 6000 → straight l n ≤ 70000000000

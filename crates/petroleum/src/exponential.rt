@@ -1,4 +1,5 @@
 // The exponential liquid: its opening, and its carry factor worked out in whole units of 10⁻¹².
+// A temperature is in 0.01 °C above −10 °C, so that 15 °C is 2,500.
 ghost use Rattle.std.specs.Prelude.{◌≡◌, ◌+◌, ◌*◌, ◌≤◌, true, false, MatchOption};
 
 use crate::coefficients::{Coefficients, downward, square};
@@ -76,7 +77,7 @@ impl Exponential {
     }
 
     /// e(−bΔ(1 + 0.8bΔ)).
-    #[tactic(auto, using(crate::specs::Thermals::warm_units, crate::specs::Thermals::cold_units, crate::specs::Thermals::warm_range, crate::specs::Thermals::cold_range))]
+    #[tactic(auto, using(crate::specs::Thermals::warm_range, crate::specs::Thermals::cold_range), unfolding(crate::specs::Rounded::thermal_units))]
     fn thermal(&self, temperature: Temperature) -> u128
         ensures value { result ≡ thermal_units self.now temperature.raised }
         ensures range { (926000000000 ≤ result) × (result ≤ 1053000000000) }
@@ -99,7 +100,7 @@ impl Exponential {
     }
 
     /// 1,000·g.
-    #[tactic(auto, using(crate::specs::Elastics::above_exponential, crate::specs::Elastics::below_exponential, crate::specs::Elastics::above_small, crate::specs::Elastics::below_small))]
+    #[tactic(auto, using(crate::specs::Elastics::above_small, crate::specs::Elastics::below_small), unfolding(crate::specs::Rounded::compressibility_units))]
     fn compressibility(&self, temperature: Temperature) -> u128
         ensures value { result ≡ compressibility_units self.now temperature.raised }
     {
@@ -123,7 +124,7 @@ impl Exponential {
     }
 
     /// The carry factor in steps, rounded down.
-    #[tactic(auto, using(crate::specs::Exponentials::product_most, crate::specs::Exponentials::factor_positive, crate::specs::Exponentials::steps_range, crate::specs::Exponentials::parts_at), unfolding(crate::specs::Rounded::carried))]
+    #[tactic(auto, using(crate::specs::Exponentials::product_most, crate::specs::Exponentials::factor_positive, crate::specs::Exponentials::steps_range), unfolding(crate::specs::Rounded::carried))]
     fn carried(&self, at: &Conditions) -> u64
         ensures value { result ≡ carried_of self.now at.now.densitometer_temperature.raised at.now.densitometer_pressure.kilopascals at.now.wall_temperature.raised at.now.vessel_pressure.kilopascals }
         ensures range { (83900000 ≤ result) × (result ≤ 119100000) }

@@ -13,7 +13,6 @@ use Rattle.point.proofs.Steps.{worth_step, step_positive}
 use Rattle.point.proofs.Spreads.{gap_least, gap_most}
 use Rattle.range.specs.Gaps.{half_gap_low, half_gap_high}
 use Rattle.range.specs.Ranges.{greater, half_gap_lem}
-use Rattle.range.specs.Reaches.{Narrow}
 use Rattle.range.proofs.Greaters.{greater_left, greater_right, greater_most}
 
 -- the gap itself, between the nearest and the farthest that the ends allow
@@ -100,8 +99,7 @@ distance_most : (a A p P : ℕ) → 90000000 ≤ a → 90000000 ≤ p → A ≤ 
 distance_most a A p P i j h k = omega arith
 
 pub level_gap_narrow : (a A p P : ℕ) → 90000000 ≤ a → 90000000 ≤ p → a ≤ A → p ≤ P → A ≤ a + 301 → P ≤ p + 301 → A ≤ 111111112 → P ≤ 111111112
-    → Narrow 280 6000000 (record { low = half_gap_low a A p P; high = half_gap_high a A p P })
+    → (half_gap_low a A p P ≤ half_gap_high a A p P) × (half_gap_high a A p P ≤ half_gap_low a A p P + 280) × (half_gap_high a A p P ≤ 6000000)
 level_gap_narrow a A p P o q i j h k m n =
     let d = distance_narrow a A p P i j h k in
-    let r = half_gap_narrow (nearest a A p P) (farthest a A p P) (2 * (a + p)) (2 * (A + P)) d.0 d.1 (distance_most a A p P o q m n) (omega arith) (omega arith) (omega arith) in
-    record { ordered = r.0; near = r.1; small = r.2 }
+    half_gap_narrow (nearest a A p P) (farthest a A p P) (2 * (a + p)) (2 * (A + P)) d.0 d.1 (distance_most a A p P o q m n) (omega arith) (omega arith) (omega arith)

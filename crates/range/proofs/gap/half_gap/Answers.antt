@@ -14,9 +14,7 @@ upper c =
 
 pub invariant_of-result : goal.invariant_of-result
 invariant_of-result c =
-    let a = c.args.one in
-    let b = c.args.other in
-    let n = level_gap_narrow a.low a.high b.low b.high a.ranged.0 b.ranged.0 a.ranged.1 b.ranged.1 a.narrow b.narrow a.ranged.2 b.ranged.2 in
+    let n = level_gap_narrow c.args.one c.args.other in
     let low = c.nearest.ensures.value in
     let high = upper c in
     record { ordered = rw (low, high) n.0; narrow = rw (low, high) n.1; within = rw high n.2 }

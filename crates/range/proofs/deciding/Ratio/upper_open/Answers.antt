@@ -5,15 +5,11 @@ use Rattle.range.proofs.deciding.Ratio.upper_open.Goals as goal
 pub returns-then-self : goal.returns-then-self
 returns-then-self c = λ θ² s² h k.
     let t = c.args.self.systematic in
-    let s = c.args.self.of_mean in (
-      near_upper t.low t.high s.low s.high θ² s² h k t.narrow s.narrow (omega arith) (omega arith),
-      near_lower t.low t.high s.low s.high θ² s² h k t.narrow s.narrow (omega arith) (omega arith),
-    )
+    let s = c.args.self.of_mean in
+    (near_upper t s θ² s² h k (omega arith) (omega arith), near_lower t s θ² s² h k (omega arith) (omega arith))
 
 pub returns-else-self : goal.returns-else-self
 returns-else-self c = λ θ² s² h k.
     let t = c.args.self.systematic in
-    let s = c.args.self.of_mean in (
-      near_upper t.low t.high s.low s.high θ² s² h k t.narrow s.narrow (omega arith) (omega arith),
-      not_random t.low t.high s.low s.high θ² s² h k (omega arith),
-    )
+    let s = c.args.self.of_mean in
+    (near_upper t s θ² s² h k (omega arith) (omega arith), not_random t s θ² s² h k (omega arith))

@@ -6,7 +6,6 @@ use Rattle.range.proofs.reach.Reach.further.Goals as goal
 pub returns : goal.returns
 returns c =
     let p = c.args.point.now in
-    let next = c.args.self.level in
     let s = c.larger.ensures in
     let e = c.larger-2.ensures in
     let n = c.larger-3.ensures in
@@ -15,7 +14,6 @@ returns c =
         level = h.level;
         of_mean = rw (s.low, s.high, c.of.ensures.low, c.of.ensures.high) (holds_greater_root _ _ _ _ _ _ (holds_sizes _ _ p.least.1 p.of_mean.ordered h.of_mean) reach.of_mean);
         random = rw (e.low, e.high, c.of-2.ensures.low, c.of-2.ensures.high) (holds_greater_root _ _ _ _ _ _ (holds_sizes _ _ p.least.2 p.random.ordered h.random) reach.random);
-        neighbours = rw (n.low, n.high, c.half_gap.ensures.low, c.half_gap.ensures.high) (holds_greater _ _ _ _ _ _
-            (level_gap_holds p.level.low p.level.high next.low next.high _ _ p.level.ranged.0 next.ranged.0 p.level.ranged.1 next.ranged.1 h.level reach.level) reach.neighbours);
+        neighbours = rw (n.low, n.high, c.half_gap.ensures.low, c.half_gap.ensures.high) (holds_greater _ _ _ _ _ _ (level_gap_holds p.level c.args.self.level _ _ h.level reach.level) reach.neighbours);
       };
     }

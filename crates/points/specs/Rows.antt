@@ -7,7 +7,7 @@ use Rattle.pass.specs.Kinds.{Kind}
 use Rattle.point.specs.Rows.{Held}
 use Rattle.point.specs.Outcomes.{Workable}
 use Rattle.point.specs.declared.ends.Ends.{Ends}
-use Rattle.range.specs.Reaches.{Sound, Reaches}
+use Rattle.range.specs.Reaches.{Reaches}
 use Rattle.range.specs.Judgements.{Limits, RangeHolds}
 use Rattle.range.specs.declared.figures.Range.{Range}
 use Rattle.range.specs.declared.reach.Reach.{Reach}
@@ -35,7 +35,7 @@ pub record Complete (k : Kind) (points : List Rows) (limits : List ℕ) : Type 0
 -- Points are gathered exactly where all their rows are workable, and their reach then holds the exact figures.
 abbrev pub Gathered : Kind → List Rows → Option Reach → Type 0
 Gathered k points None = AllWorkable k points → ⊥
-Gathered k points (Some r) = AllWorkable k points × Sound r × ((xs : List Fraction) (xss : List (List Fraction)) → AllHeld points (xs ∷ xss) → Reaches k xs xss r)
+Gathered k points (Some r) = AllWorkable k points × ((xs : List Fraction) (xss : List (List Fraction)) → AllHeld points (xs ∷ xss) → Reaches k xs xss r)
 
 -- A maker who asks for the figures gets them exactly where points and limits are complete.
 abbrev pub Answered : Kind → List Rows → List ℕ → Option Range → Type 0

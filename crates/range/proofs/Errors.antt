@@ -1,8 +1,7 @@
 -- The error's pair: by one rule, and over the rules that are left.
-use Rattle.std.proofs.Common.{◌≡◌, ℕ, ◌+◌, ◌*◌, ◌/◌, ◌≤◌, min, max, ◌⊎◌, ℤ, pos, sym, refl, subst, inl, inr, arith, lit<}
+use Rattle.std.proofs.Common.{◌≡◌, ℕ, ◌+◌, ◌*◌, ◌≤◌, min, max, ◌⊎◌, ℤ, pos, sym, refl, subst, inl, inr, arith, lit<}
 use Rattle.std.proofs.lemmas.Int.{ints}
-use Rattle.std.proofs.lemmas.Bool.{cases_lt}
-use Rattle.exact.specs.Fractions.{Fraction, Le, add}
+use Rattle.exact.specs.Fractions.{Fraction, add}
 use Rattle.exact.specs.Figures.{Figure, root, AtMost, AtLeast}
 use Rattle.exact.specs.Pairs.{Holds, steps}
 use Rattle.exact.proofs.Order.{le_refl}
@@ -12,6 +11,7 @@ use Rattle.point.proofs.Steps.{worth_step}
 use Rattle.range.specs.Rules.{Rule, systematic, random, mixed, rule, error_by, error, NearUpper, NearLower}
 use Rattle.range.specs.Outcomes.{NearChange, May, Spans, ErrorHolds}
 use Rattle.range.proofs.Edges.{worth_part}
+use Rattle.range.proofs.Greaters.{step_mono, min_case, max_case}
 
 -- 0.81·(Θ + ε): Θ lies from t to T, ε from e to E
 pub mixed_holds : (t T e E l h : ℕ) (θ² ε² : Fraction) → l * 100 ≤ 81 * (t + e) → 81 * (T + E) ≤ h * 100 → Holds steps (pos t) (pos T) (root θ²) → Holds steps (pos e) (pos E) (root ε²) → Holds steps (pos l) (pos h) (error_by mixed θ² ε²)
@@ -27,9 +27,6 @@ mixed_holds t T e E l h θ² ε² i j p q = record {
     worth_le (worth_mul (worth_add (worth_step T) (worth_step E)) (worth_part 81 100 (lit< tt))) (worth_step h) (omega arith),
   );
 }
-
-step_mono : {a b : ℕ} → a ≤ b → Le (steps (pos a)) (steps (pos b))
-step_mono {a} {b} h = worth_le (worth_step a) (worth_step b) (omega arith)
 
 -- a wider pair holds what a pair inside it holds
 pub holds_wider : (f : Figure) (l h low high : ℕ) → low ≤ l → h ≤ high → Holds steps (pos l) (pos h) f → Holds steps (pos low) (pos high) f
@@ -57,18 +54,6 @@ lowest θ² s² ε² r l h m w k = record { by = r; may = m; top = higher (error
 
 pub highest : (θ² s² ε² : Fraction) (r : Rule) (l h : ℕ) → May θ² s² r → h ≤ l + 1450 → Holds steps (pos l) (pos h) (error_by r θ² ε²) → Highest θ² s² ε² h
 highest θ² s² ε² r l h m w k = record { by = r; may = m; end = l; near = w; floor = k.least }
-
-pub lowest_min : {θ² s² ε² : Fraction} {a b : ℕ} → Lowest θ² s² ε² a → Lowest θ² s² ε² b → Lowest θ² s² ε² (min a b)
-lowest_min {θ²} {s²} {ε²} {a} {b} h k = elim (cases_lt a b) [
-  | inl l ↦ (let e : min a b ≡ a = omega arith in subst (Lowest θ² s² ε²) (sym e) h)
-  | inr l ↦ (let e : min a b ≡ b = omega arith in subst (Lowest θ² s² ε²) (sym e) k)
-]
-
-pub highest_max : {θ² s² ε² : Fraction} {a b : ℕ} → Highest θ² s² ε² a → Highest θ² s² ε² b → Highest θ² s² ε² (max a b)
-highest_max {θ²} {s²} {ε²} {a} {b} h k = elim (cases_lt a b) [
-  | inl l ↦ (let e : max a b ≡ b = omega arith in subst (Highest θ² s² ε²) (sym e) k)
-  | inr l ↦ (let e : max a b ≡ a = omega arith in subst (Highest θ² s² ε²) (sym e) h)
-]
 
 reached : (θ² s² ε² : Fraction) (low high : ℕ) → Lowest θ² s² ε² low → Highest θ² s² ε² high
     → (a : Rule) × (b : Rule) × May θ² s² a × May θ² s² b × Spans (pos low) (pos high) (error_by a θ² ε²) (error_by b θ² ε²)
@@ -101,18 +86,12 @@ error_one θ² s² ε² r l h e w k = record {
 pub error_several : (θ² s² ε² : Fraction) (low high : ℕ) → NearChange θ² s² → Holds steps (pos low) (pos high) (error θ² s² ε²) → Lowest θ² s² ε² low → Highest θ² s² ε² high → ErrorHolds θ² s² ε² (pos low) (pos high)
 error_several θ² s² ε² low high n k l h = record { holds = k; narrow = λ f. absurd (f n); reach = reached θ² s² ε² low high l h }
 
--- 0.81·(Θ + ε) is at most 1,427 wide, where Θ is at most 310 and ε at most 1,450 wide
-pub mixed_narrow : (t T e E : ℕ) → t ≤ T → T ≤ t + 310 → T ≤ 20000000 → e ≤ E → E ≤ e + 1450 → E ≤ 50000000
-    → ((81 * (t + e) / 100 ≤ (81 * (T + E) + 99) / 100) × ((81 * (T + E) + 99) / 100 ≤ 81 * (t + e) / 100 + 1450) × ((81 * (T + E) + 99) / 100 ≤ 100000000))
-    × ((81 * (t + e) / 100 * 100 ≤ 81 * (t + e)) × (81 * (T + E) ≤ (81 * (T + E) + 99) / 100 * 100))
-mixed_narrow t T e E a b c d f g = ((omega arith, omega arith, omega arith), (omega arith, omega arith))
-
 -- two rules are left: the pair reaches around both
 pub error_two : (θ² s² ε² : Fraction) (a b : Rule) (l h m n : ℕ) → NearChange θ² s² → May θ² s² a → May θ² s² b → (rule θ² s² ≡ a) ⊎ (rule θ² s² ≡ b)
     → h ≤ l + 1450 → n ≤ m + 1450 → Holds steps (pos l) (pos h) (error_by a θ² ε²) → Holds steps (pos m) (pos n) (error_by b θ² ε²) → (low high : ℕ) → low ≡ min l m → high ≡ max h n → ErrorHolds θ² s² ε² (pos low) (pos high)
 error_two θ² s² ε² a b l h m n near may must e u v p q low high c d =
-    error_several θ² s² ε² low high near (go e) (subst (Lowest θ² s² ε²) (sym c) (lowest_min (lowest θ² s² ε² a l h may u p) (lowest θ² s² ε² b m n must v q)))
-    (subst (Highest θ² s² ε²) (sym d) (highest_max (highest θ² s² ε² a l h may u p) (highest θ² s² ε² b m n must v q)))
+    error_several θ² s² ε² low high near (go e) (subst (Lowest θ² s² ε²) (sym c) (min_case (Lowest θ² s² ε²) l m (lowest θ² s² ε² a l h may u p) (lowest θ² s² ε² b m n must v q)))
+    (subst (Highest θ² s² ε²) (sym d) (max_case (Highest θ² s² ε²) h n (highest θ² s² ε² a l h may u p) (highest θ² s² ε² b m n must v q)))
   where
     go : (rule θ² s² ≡ a) ⊎ (rule θ² s² ≡ b) → Holds steps (pos low) (pos high) (error θ² s² ε²)
     go (inl i) = holds_by θ² s² ε² a (pos low) (pos high) i (holds_wider (error_by a θ² ε²) l h low high (omega arith) (omega arith) p)
@@ -124,8 +103,8 @@ pub error_three : (θ² s² ε² : Fraction) (t T e E m M : ℕ) → NearUpper �
     → (low high : ℕ) → low ≡ min (min t e) m → high ≡ max (max T E) M → ErrorHolds θ² s² ε² (pos low) (pos high)
 error_three θ² s² ε² t T e E m M up down u v w p q r low high c d =
     error_several θ² s² ε² low high (inl up) (go (rule θ² s²) refl)
-    (subst (Lowest θ² s² ε²) (sym c) (lowest_min (lowest_min (lowest θ² s² ε² systematic t T (inr up) u p) (lowest θ² s² ε² random e E (inr down) v q)) (lowest θ² s² ε² mixed m M (inr (inl up)) w r)))
-    (subst (Highest θ² s² ε²) (sym d) (highest_max (highest_max (highest θ² s² ε² systematic t T (inr up) u p) (highest θ² s² ε² random e E (inr down) v q)) (highest θ² s² ε² mixed m M (inr (inl up)) w r)))
+    (subst (Lowest θ² s² ε²) (sym c) (min_case (Lowest θ² s² ε²) (min t e) m (min_case (Lowest θ² s² ε²) t e (lowest θ² s² ε² systematic t T (inr up) u p) (lowest θ² s² ε² random e E (inr down) v q)) (lowest θ² s² ε² mixed m M (inr (inl up)) w r)))
+    (subst (Highest θ² s² ε²) (sym d) (max_case (Highest θ² s² ε²) (max T E) M (max_case (Highest θ² s² ε²) T E (highest θ² s² ε² systematic t T (inr up) u p) (highest θ² s² ε² random e E (inr down) v q)) (highest θ² s² ε² mixed m M (inr (inl up)) w r)))
   where
     go : (a : Rule) → rule θ² s² ≡ a → Holds steps (pos low) (pos high) (error θ² s² ε²)
     go systematic i = holds_by θ² s² ε² systematic (pos low) (pos high) i (holds_wider (error_by systematic θ² ε²) t T low high (omega arith) (omega arith) p)

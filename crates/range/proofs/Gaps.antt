@@ -9,11 +9,11 @@ use Rattle.exact.proofs.Worth.{Worth, worth_itself, worth_nat, worth_add, worth_
 use Rattle.exact.proofs.Arithmetic.{add_mono, mul_mono}
 use Rattle.exact.proofs.Quotients.{quotient_least, quotient_most, floor_under, ceil_over, floor_most, ceil_most}
 use Rattle.point.specs.Deviations.{nearest, farthest}
+use Rattle.point.specs.declared.level.Level.{Level}
 use Rattle.point.proofs.Steps.{worth_step, step_positive}
 use Rattle.point.proofs.Spreads.{gap_least, gap_most}
 use Rattle.range.specs.Gaps.{half_gap_low, half_gap_high}
 use Rattle.range.specs.Ranges.{greater, half_gap_lem}
-use Rattle.range.specs.Reaches.{Narrow}
 use Rattle.range.proofs.Greaters.{greater_left, greater_right, greater_most}
 
 -- the gap itself, between the nearest and the farthest that the ends allow
@@ -50,7 +50,7 @@ twice_most : (a p A P : ℕ) (y z : Fraction) → Le (steps (pos a)) y → Le (s
 twice_most a p A P y z u v h k =
     mul_mono (nat_le (omega arith)) (le_trans (worth_le (worth_nat 0) (worth_add (worth_step a) (worth_step p)) (omega arith)) (add_mono u v)) (le_refl (nat 2)) (add_mono h k)
 
-pub half_gap_holds : (a A p P l h : ℕ) (y z : Fraction) → 0 < a → a ≤ A → p ≤ P → l * (2 * (A + P)) ≤ 100000000 * nearest a A p P → 100000000 * farthest a A p P ≤ h * (2 * (a + p))
+half_gap_holds : (a A p P l h : ℕ) (y z : Fraction) → 0 < a → a ≤ A → p ≤ P → l * (2 * (A + P)) ≤ 100000000 * nearest a A p P → 100000000 * farthest a A p P ≤ h * (2 * (a + p))
     → Holds steps (pos a) (pos A) (number y) → Holds steps (pos p) (pos P) (number z) → Holds steps (pos l) (pos h) (number (half_gap_lem y z))
 unfolding half_gap_lem
 half_gap_holds a A p P l h y z o i j u v m n =
@@ -69,7 +69,7 @@ half_gap_holds a A p P l h y z o i j u v m n =
     high h b g e = omega arith
 
 -- its ends, from the nearest n and the farthest f, over b to B: at most 280 apart and at most 6,000,000
-pub half_gap_narrow : (n f b B : ℕ) → n ≤ f → f ≤ n + 602 → f ≤ 21111112 → 360000000 ≤ b → b ≤ B → B ≤ b + 1204
+half_gap_narrow : (n f b B : ℕ) → n ≤ f → f ≤ n + 602 → f ≤ 21111112 → 360000000 ≤ b → b ≤ B → B ≤ b + 1204
     → (floor (100000000 * n) B ≤ ceiling (100000000 * f) b) × (ceiling (100000000 * f) b ≤ floor (100000000 * n) B + 280) × (ceiling (100000000 * f) b ≤ 6000000)
 half_gap_narrow n f b B i j k o h m =
     let u = floor_under (100000000 * n) B (omega arith) in
@@ -87,21 +87,22 @@ half_gap_narrow n f b B i j k o h m =
     go q few near turn = omega arith
 
 -- both, for levels: at least 90,000,000 steps, at most 301 wide
-pub level_gap_holds : (a A p P : ℕ) (y z : Fraction) → 90000000 ≤ a → 90000000 ≤ p → a ≤ A → p ≤ P
-    → Holds steps (pos a) (pos A) (number y) → Holds steps (pos p) (pos P) (number z) → Holds steps (pos (half_gap_low a A p P)) (pos (half_gap_high a A p P)) (number (half_gap_lem y z))
-level_gap_holds a A p P y z o q i j h k =
-    half_gap_holds a A p P (half_gap_low a A p P) (half_gap_high a A p P) y z (omega arith) i j
-    (floor_under (100000000 * nearest a A p P) (2 * (A + P)) (omega arith)).0 (ceil_over (100000000 * farthest a A p P) (2 * (a + p)) (omega arith)).0 h k
+pub level_gap_holds : (a p : Level) (y z : Fraction) → Holds steps (pos a.low) (pos a.high) (number y) → Holds steps (pos p.low) (pos p.high) (number z)
+    → Holds steps (pos (half_gap_low a.low a.high p.low p.high)) (pos (half_gap_high a.low a.high p.low p.high)) (number (half_gap_lem y z))
+level_gap_holds a p y z h k =
+    half_gap_holds a.low a.high p.low p.high (half_gap_low a.low a.high p.low p.high) (half_gap_high a.low a.high p.low p.high) y z (omega arith) a.ranged.1 p.ranged.1
+    (floor_under (100000000 * nearest a.low a.high p.low p.high) (2 * (a.high + p.high)) (omega arith)).0 (ceil_over (100000000 * farthest a.low a.high p.low p.high) (2 * (a.low + p.low)) (omega arith)).0 h k
 
-distance_narrow : (a A p P : ℕ) → a ≤ A → p ≤ P → A ≤ a + 301 → P ≤ p + 301 → (nearest a A p P ≤ farthest a A p P) × (farthest a A p P ≤ nearest a A p P + 602)
-distance_narrow a A p P i j h k = (omega arith, omega arith)
+distance_narrow : (a p : Level) → (nearest a.low a.high p.low p.high ≤ farthest a.low a.high p.low p.high) × (farthest a.low a.high p.low p.high ≤ nearest a.low a.high p.low p.high + 602)
+distance_narrow a p = (omega arith, omega arith)
 
-distance_most : (a A p P : ℕ) → 90000000 ≤ a → 90000000 ≤ p → A ≤ 111111112 → P ≤ 111111112 → farthest a A p P ≤ 21111112
-distance_most a A p P i j h k = omega arith
+distance_most : (a p : Level) → farthest a.low a.high p.low p.high ≤ 21111112
+distance_most a p = omega arith
 
-pub level_gap_narrow : (a A p P : ℕ) → 90000000 ≤ a → 90000000 ≤ p → a ≤ A → p ≤ P → A ≤ a + 301 → P ≤ p + 301 → A ≤ 111111112 → P ≤ 111111112
-    → Narrow 280 6000000 (record { low = half_gap_low a A p P; high = half_gap_high a A p P })
-level_gap_narrow a A p P o q i j h k m n =
-    let d = distance_narrow a A p P i j h k in
-    let r = half_gap_narrow (nearest a A p P) (farthest a A p P) (2 * (a + p)) (2 * (A + P)) d.0 d.1 (distance_most a A p P o q m n) (omega arith) (omega arith) (omega arith) in
-    record { ordered = r.0; near = r.1; small = r.2 }
+pub level_gap_narrow : (a p : Level)
+    → (half_gap_low a.low a.high p.low p.high ≤ half_gap_high a.low a.high p.low p.high)
+    × (half_gap_high a.low a.high p.low p.high ≤ half_gap_low a.low a.high p.low p.high + 280)
+    × (half_gap_high a.low a.high p.low p.high ≤ 6000000)
+level_gap_narrow a p =
+    let d = distance_narrow a p in
+    half_gap_narrow (nearest a.low a.high p.low p.high) (farthest a.low a.high p.low p.high) (2 * (a.low + p.low)) (2 * (a.high + p.high)) d.0 d.1 (distance_most a p) (omega arith) (omega arith) (omega arith)

@@ -1,5 +1,5 @@
 -- The greater of two numbers, and the pair that holds it.
-use Rattle.std.proofs.Common.{◌≡◌, ℕ, ◌*◌, ◌≤◌, max, true, false, pos, sym, subst, inl, inr, mul-le-mul, arith}
+use Rattle.std.proofs.Common.{◌≡◌, ℕ, ◌*◌, ◌≤◌, min, max, true, false, pos, sym, subst, inl, inr, mul-le-mul, arith}
 use Rattle.std.proofs.lemmas.Bool.{cases_lt, cond_both, leb-true, leb-false, le-leb, lt-leb}
 use Rattle.exact.specs.Fractions.{Fraction, Le, Lt, nat}
 use Rattle.exact.specs.Figures.{number, root}
@@ -37,17 +37,23 @@ greater_right a b = cond_both (at_most a b) b a (λ z. Le b z) (λ _. le_refl b)
 pub greater_most : (a b v : Fraction) → Le a v → Le b v → Le (greater a b) v
 greater_most a b v h k = cond_both (at_most a b) b a (λ z. Le z v) (λ _. k) (λ _. h)
 
-step_mono : {a b : ℕ} → a ≤ b → Le (steps (pos a)) (steps (pos b))
+pub step_mono : {a b : ℕ} → a ≤ b → Le (steps (pos a)) (steps (pos b))
 step_mono {a} {b} h = worth_le (worth_step a) (worth_step b) (omega arith)
 
 squares_mono : (a b : ℕ) → a ≤ b → Le (squares (a * a)) (squares (b * b))
 squares_mono a b h = let q : a * a ≤ b * b = mul-le-mul h h in worth_le (worth_squares (a * a)) (worth_squares (b * b)) (omega arith)
 
--- what holds of both numbers holds of the greater one
-max_case : (P : ℕ → Type 0) (a b : ℕ) → P a → P b → P (max a b)
+-- what holds of both numbers holds of the greater one, and of the smaller one
+pub max_case : (P : ℕ → Type 0) (a b : ℕ) → P a → P b → P (max a b)
 max_case P a b h k = elim (cases_lt a b) [
   | inl l ↦ (let e : max a b ≡ b = omega arith in subst P (sym e) k)
   | inr l ↦ (let e : max a b ≡ a = omega arith in subst P (sym e) h)
+]
+
+pub min_case : (P : ℕ → Type 0) (a b : ℕ) → P a → P b → P (min a b)
+min_case P a b h k = elim (cases_lt a b) [
+  | inl l ↦ (let e : min a b ≡ a = omega arith in subst P (sym e) h)
+  | inr l ↦ (let e : min a b ≡ b = omega arith in subst P (sym e) k)
 ]
 
 -- pairs of roots, and of numbers: the larger end of each gives the pair of the greater
@@ -63,9 +69,11 @@ holds_greater a A b B p q h k = record {
   most = greater_most p q (steps (pos (max A B))) (le_trans h.most (step_mono (omega arith))) (le_trans k.most (step_mono (omega arith)));
 }
 
--- nothing yet: 0
-pub holds_nought_root : Holds steps (pos 0) (pos 0) (root (nat 0))
-holds_nought_root = root_holds 0 0 (nat 0) (worth_le (worth_squares 0) (worth_nat 0) (omega arith)) (worth_le (worth_nat 0) (worth_squares 0) (omega arith))
+-- one figure alone: the greater of it and 0
+pub holds_first_root : (a A : ℕ) (p : Fraction) → Holds steps (pos a) (pos A) (root p) → Holds steps (pos a) (pos A) (root (greater p (nat 0)))
+holds_first_root a A p h =
+    root_holds a A (greater p (nat 0)) (le_trans (holds_least a A p h) (greater_left p (nat 0))) (greater_most p (nat 0) (squares (A * A)) (holds_most a A p h) (worth_le (worth_nat 0) (worth_squares (A * A)) (omega arith)))
 
+-- no figure yet: 0
 pub holds_nought : Holds steps (pos 0) (pos 0) (number (nat 0))
 holds_nought = record { least = worth_le (worth_step 0) (worth_nat 0) (omega arith); most = worth_le (worth_nat 0) (worth_step 0) (omega arith) }

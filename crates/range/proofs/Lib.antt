@@ -1,6 +1,6 @@
 pub mod Greaters
 pub mod Gaps
-pub mod Limits
+pub mod Systematics
 pub mod Edges
 pub mod Errors
 pub mod Together

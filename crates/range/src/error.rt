@@ -1,26 +1,22 @@
 // The error of the meter over the range.
-ghost use Rattle.std.specs.Prelude.{◌≡◌, ◌+◌, ◌≤◌, min, max, pos};
+ghost use Rattle.std.specs.Prelude.{◌≡◌, ◌≤◌, min, max, pos};
 ghost use Rattle.exact.specs.Fractions.{Fraction};
 ghost use Rattle.exact.specs.Figures.{root};
-ghost use Rattle.exact.specs.Pairs.{Holds, steps};
 ghost use Rattle.range.specs.Outcomes.{Decided, ErrorHolds};
-ghost use Rattle.range.specs.Reaches.{Narrow};
 ghost use Rattle.range.specs.Rules.{mixed as by_both, error_by};
+ghost use Rattle.range.specs.Span.{SpanHolds};
 
 use crate::left::Left;
+use crate::span::{MixedError, RandomLimit, SystematicLimit};
 use point::bounds::Bounds;
-use point::rounding::{rounded_down, rounded_up};
 
 /// 0.81·(Θ + ε), in steps.
-fn mixed(systematic: Bounds, random: Bounds) -> Bounds
-    requires systematic { Narrow 310 20000000 systematic }
-    requires random { Narrow 1450 50000000 random }
-    ensures holds { (θ² ε² : Fraction) → Holds steps (pos systematic.low) (pos systematic.high) (root θ²) → Holds steps (pos random.low) (pos random.high) (root ε²) → Holds steps (pos result.low) (pos result.high) (error_by by_both θ² ε²) }
-    ensures narrow { Narrow 1450 100000000 result }
+fn mixed(systematic: SystematicLimit, random: RandomLimit) -> MixedError
+    ensures { (θ² ε² : Fraction) → SpanHolds systematic (root θ²) → SpanHolds random (root ε²) → SpanHolds result (error_by by_both θ² ε²) }
 {
-    Bounds {
-        low: rounded_down(81 * (systematic.low + random.low), 100),
-        high: rounded_up(81 * (systematic.high + random.high), 100),
+    MixedError {
+        low: 81 * (systematic.low + random.low) / 100,
+        high: (81 * (systematic.high + random.high)).div_ceil(100),
     }
 }
 
@@ -36,13 +32,13 @@ fn around(one: Bounds, other: Bounds) -> Bounds
 }
 
 /// The error, in steps, by the rules that are left.
-pub(crate) fn error(left: Left, systematic: Bounds, random: Bounds) -> Bounds
-    requires systematic { Narrow 310 20000000 systematic }
-    requires random { Narrow 1450 50000000 random }
-    ensures holds { (θ² s² ε² : Fraction) → Decided θ² s² left → Holds steps (pos systematic.low) (pos systematic.high) (root θ²) → Holds steps (pos random.low) (pos random.high) (root ε²) → ErrorHolds θ² s² ε² (pos result.low) (pos result.high) }
-    ensures range { (result.low ≤ result.high) × (result.high ≤ 100000000) }
+pub(crate) fn error(left: Left, systematic: SystematicLimit, random: RandomLimit) -> Bounds
+    ensures holds { (θ² s² ε² : Fraction) → Decided θ² s² left → SpanHolds systematic (root θ²) → SpanHolds random (root ε²) → ErrorHolds θ² s² ε² (pos result.low) (pos result.high) }
+    ensures within { result.high ≤ 100000000 }
 {
-    let both = mixed(systematic, random);
+    let both = Bounds::from(mixed(systematic, random));
+    let systematic = Bounds::from(systematic);
+    let random = Bounds::from(random);
     match left {
         Left::Systematic => systematic,
         Left::Random => random,

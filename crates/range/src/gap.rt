@@ -2,20 +2,19 @@
 ghost use Rattle.std.specs.Prelude.{◌≡◌};
 ghost use Rattle.range.specs.Gaps.{half_gap_low, half_gap_high};
 
-use point::bounds::Bounds;
+use crate::span::HalfGap;
 use point::deviations::{farthest, nearest};
 use point::level::Level;
-use point::rounding::{rounded_down, rounded_up};
 
 /// |x − y|/(2·(x + y)) of two levels, in steps: the lower end over the upper sum rounded down, the upper end the other way.
-pub(crate) fn half_gap(one: Level, other: Level) -> Bounds
+pub(crate) fn half_gap(one: Level, other: Level) -> HalfGap
     ensures low { result.low ≡ half_gap_low one.low one.high other.low other.high }
     ensures high { result.high ≡ half_gap_high one.low one.high other.low other.high }
 {
     let least = 2 * (one.low + other.low);
     let most = 2 * (one.high + other.high);
-    Bounds {
-        low: rounded_down(100_000_000 * nearest(one, other), most),
-        high: rounded_up(100_000_000 * farthest(one, other), least),
+    HalfGap {
+        low: 100_000_000 * nearest(one, other) / most,
+        high: (100_000_000 * farthest(one, other)).div_ceil(least),
     }
 }

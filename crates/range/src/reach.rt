@@ -1,14 +1,50 @@
-use point::bounds::Bounds;
+// The figures of points taken together, one by one.
+ghost use Rattle.std.specs.Prelude.{List, []};
+ghost use Rattle.exact.specs.Fractions.{Fraction};
+ghost use Rattle.pass.specs.Kinds.{Kind};
+ghost use Rattle.point.specs.Outcomes.{PointHolds};
+ghost use Rattle.range.specs.Reaches.{Reaches, Extends};
+
+use crate::gap::half_gap;
+use crate::span::{HalfGap, MeanScatter, RandomLimit};
+use point::figures::Point;
+use point::level::Level;
 
 /// The figures of some points together, in steps; further points are put before them one by one.
 #[derive(Clone, Copy, Drop)]
 pub struct Reach {
     /// The first point's mean near 1.
-    pub level: Bounds,
+    pub level: Level,
     /// S0, the largest over the points.
-    pub of_mean: Bounds,
+    pub of_mean: MeanScatter,
     /// ε, the largest over the points.
-    pub random: Bounds,
+    pub random: RandomLimit,
     /// Θ_A, the largest half-gap of neighbours.
-    pub neighbours: Bounds,
+    pub neighbours: HalfGap,
+}
+
+impl Reach {
+    /// The reach of one point.
+    pub fn of(point: &Point) -> Reach
+        ensures { (k : Kind) (xs : List Fraction) → PointHolds k xs point.now → Reaches k xs [] result }
+    {
+        Reach {
+            level: point.level,
+            of_mean: MeanScatter::of(point.of_mean),
+            random: RandomLimit::of(point.random),
+            neighbours: HalfGap { low: 0, high: 0 },
+        }
+    }
+
+    /// The reach of a point and those that follow it: the larger of each figure, and the half-gap to the next.
+    pub fn further(self, point: &Point) -> Reach
+        ensures { Extends self point.now result }
+    {
+        Reach {
+            level: point.level,
+            of_mean: MeanScatter::of(point.of_mean).larger(self.of_mean),
+            random: RandomLimit::of(point.random).larger(self.random),
+            neighbours: half_gap(point.level, self.level).larger(self.neighbours),
+        }
+    }
 }

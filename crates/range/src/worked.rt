@@ -2,11 +2,9 @@
 ghost use Rattle.range.specs.Worked.{NeighboursWorked, SystematicWorked, MixedWorked, SystematicErrorWorked};
 
 /// Θ_A of two means, Θ of two given limits, and the error by two rules.
-pub fn worked() -> bool
+pub fn worked()
     ensures neighbours { NeighboursWorked }
     ensures systematic { SystematicWorked }
     ensures mixed { MixedWorked }
     ensures systematic_error { SystematicErrorWorked }
-{
-    true
-}
+{}

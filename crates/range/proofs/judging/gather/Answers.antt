@@ -1,16 +1,19 @@
-use Rattle.std.proofs.Common.{arith}
-use Rattle.range.proofs.Together.{last_reach, further_reach, from_first}
+use Rattle.std.proofs.Common.{List, [], ◌∷◌, ◌++◌, reverse, ap, ◌∙◌, subst, sym, rules}
+use Rattle.std.proofs.lemmas.List.{reverse-reverse}
+use Rattle.std.proofs.lemmas.Fn.{fold_over}
+use Rattle.std.proofs.lemmas.Iterator.Adapters.{YieldsList-from_rev_slice}
+use Rattle.std.specs.Iterator.Adapters.{rev_steps}
+use Rattle.std.specs.Slice.Iter.{iter_steps_back}
+use Rattle.point.specs.declared.figures.Point.{Point}
+use Rattle.range.specs.Reaches.{PointsHold}
+use Rattle.range.proofs.Together.{ReachesFrom, last_reach, further_reach}
 use Rattle.range.proofs.judging.gather.Goals as goal
 
-pub loop-place-init : goal.loop-place-init
-loop-place-init c = (omega arith, c.first-reach.ensures.sound, last_reach c.args.points.now c.index-points-place.result c.first-reach.result c.requires c.index-points-place.is c.first-reach.ensures.holds)
-
-pub loop-place-preserved : goal.loop-place-preserved
-loop-place-preserved c = (
-  omega arith,
-  c.further-reach.ensures.sound,
-  further_reach c.args.points.now c.loop-place.place c.index-points-place-in-loop-place.result c.loop-place.reach c.further-reach.result c.loop-place-test.true c.loop-place.invariant.0 c.index-points-place-in-loop-place.is c.loop-place.invariant.2 c.further-reach.ensures.holds,
-)
-
 pub returns : goal.returns
-returns c = record { sound = c.loop-place.invariant.1; holds = from_first c.args.points.now c.loop-place.place c.loop-place.reach (omega arith) c.loop-place.invariant.2 }
+returns c = λ k xs xss h.
+    let last = c.unwrap.result.0.now in
+    let before = c.unwrap.result.1.now in
+    let split = rw c.unwrap.ensures at c.split_last.ensures.cases in
+    let reach = fold_over (rev_steps iter_steps_back) (λ y. y.now) _ (ReachesFrom last) _ (λ ps r p t f j call. (further_reach last ps p.now r t j (search rules), search rules))
+    c.rev.result (reverse before) c.of.result c.fold.result (YieldsList-from_rev_slice {s = c.rev.result} before (cc)).runs (last_reach last c.of.result c.of.ensures) c.fold.ensures.ran in
+    reach k xs xss (subst (λ (ps : List Point). PointsHold k ps (xs ∷ xss)) (split.0 ∙ ap (λ (ps : List Point). ps ++ last ∷ []) (sym (reverse-reverse before))) h)

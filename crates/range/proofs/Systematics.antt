@@ -1,7 +1,8 @@
 -- Θ from Θ_A and the given limits.
-use Rattle.std.proofs.Common.{◌≡◌, ℕ, pred, ◌+◌, ◌*◌, ◌<◌, ◌≤◌, List, [], ◌∷◌, map, pos, sum_by, mul-le-mul, arith, lit<}
+use Rattle.std.proofs.Common.{All, length, ◌≡◌, ℕ, pred, ◌+◌, ◌*◌, ◌<◌, ◌≤◌, List, [], ◌∷◌, map, pos, sum_by, mul-le-mul, arith, lit<}
 use native.Mathlib.Decide.{dec_le}
-use Rattle.std.proofs.lemmas.List.Sums.{sum_by-cons}
+use Rattle.std.proofs.lemmas.List.Elements.{recursion_from_All}
+use Rattle.std.proofs.lemmas.List.Sums.{sum_by-cons, sum_by-le}
 use Rattle.exact.specs.Fractions.{Fraction, Le, Same, nat, add, mul, div}
 use Rattle.exact.specs.Figures.{number, root}
 use Rattle.exact.specs.Pairs.{Holds, steps}
@@ -14,6 +15,7 @@ use Rattle.point.specs.Deviations.{squares}
 use Rattle.point.proofs.Naturals.{root_lt, root_le, square_mono as square_mono_n}
 use Rattle.point.proofs.Steps.{worth_squares, square_step, step_positive, root_holds}
 use Rattle.range.specs.Ranges.{Θ², given}
+use Rattle.range.specs.Judgements.{Limits}
 
 squares_add : (a b : ℕ) → Same (add (squares a) (squares b)) (squares (a + b))
 squares_add a b = worth_same (worth_add (worth_squares a) (worth_squares b)) (worth_squares (a + b)) (omega arith)
@@ -23,6 +25,14 @@ given_sum : (limits : List ℕ) → Same (sum (map square (given limits))) (squa
 unfolding sum
 given_sum [] = worth_same (worth_nat 0) (worth_squares 0) (omega arith)
 given_sum (g ∷ gs) = rw (sum_by-cons (λ g. g * g) g gs) (same_trans (add_same (square_step g) (given_sum gs)) (squares_add (g * g) (sum_by (λ g. g * g) gs)))
+
+-- what their type keeps of given limits
+pub limits_kept : (limits : List ℕ) → length limits ≤ 8 → All (λ g. g ≤ 1000000) limits → Limits limits
+limits_kept limits few small = record { few = few; small = recursion_from_All (λ g. g ≤ 1000000) limits small }
+
+-- at most eight squares of at most 1,000,000 each
+pub squares_small : (limits : List ℕ) → length limits ≤ 8 → All (λ g. g ≤ 1000000) limits → sum_by (λ g. g * g) limits ≤ 8000000000000
+squares_small limits few small = omega (arith, sum_by-le (λ g. g * g) 1000000000000 limits (λ k d l. mul-le-mul (small k d l) (small k d l)))
 
 worth_factor : Worth (div (nat 121) (nat 100)) 121 0 100
 worth_factor = worth_of (worth_div (lit< tt) (worth_nat 121) (worth_nat 100)) (lit< tt) (omega arith)

@@ -169,7 +169,7 @@ mod statistics {
             high: 40_000,
         };
         let rows = [none, two, four, two, two];
-        let found = point::<Correction>(&rows).ok_or(Fail::new("no point"))?;
+        let found = point::<Correction>(&rows).ok_or_else(|| Fail::new("no point"))?;
         assert_eq!(rt; found.mean.low, 20_000);
         assert_eq!(rt; found.scatter.low, 14_142);
         assert_eq!(rt; found.random.high, 17_559);

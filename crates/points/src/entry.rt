@@ -38,7 +38,7 @@ pub fn figures<V: Statistic>(points: &[&[Ends]], limits: &[u32]) -> Option<Range
     ensures { Answered V.Value.kind points.now limits.now result }
 {
     let limits = GivenLimits::new(limits)?;
-    if points.len() < 2 || points.len() > 10 {
+    if !(2..=10).contains(&points.len()) {
         return None;
     }
     work::<V>(points, limits)

@@ -56,7 +56,7 @@ pub fn range(points: &[Point], limits: &[u32]) -> Option<Range>
     ensures { Answered points.now limits.now result }
 {
     let limits = GivenLimits::new(limits)?;
-    if points.len() < 2 || points.len() > 10 {
+    if !(2..=10).contains(&points.len()) {
         return None;
     }
     Some(work(points, limits))

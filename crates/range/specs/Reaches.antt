@@ -25,6 +25,6 @@ pub record Reaches (k : Kind) (xs : List Fraction) (xss : List (List Fraction)) 
   pub random : SpanHolds r.random (root (ε² k (xs ∷ xss)))
   pub neighbours : SpanHolds r.neighbours (number (ΘA k (xs ∷ xss)))
 
--- t is the reach r of some points with the point p put before them
+-- where p holds the figures of one point, and r those of the points that follow it, t holds the figures of all
 pub record Extends (r : Reach) (p : Point) (t : Reach) : Type 0 where
   pub holds : (k : Kind) (xs ys : List Fraction) (yss : List (List Fraction)) → PointHolds k xs p → Reaches k ys yss r → Reaches k xs (ys ∷ yss) t

@@ -17,8 +17,8 @@ pub struct Exponential {
     /// r, density at 15 °C.
     pub density: Density,
     pub coefficients: Coefficients,
-    ghost least: { 10000 * (density.hundredths * density.hundredths) + coefficients.minus_k2 * (density.hundredths * density.hundredths) ≤ 100000000 * coefficients.k0 + 1000000 * coefficients.k1 * density.hundredths },
-    ghost most: { 100000000 * coefficients.k0 + 1000000 * coefficients.k1 * density.hundredths ≤ 200000 * (density.hundredths * density.hundredths) + coefficients.minus_k2 * (density.hundredths * density.hundredths) },
+    ghost least: { let r = density.hundredths in 10000 * (r * r) + coefficients.minus_k2 * (r * r) ≤ 100000000 * coefficients.k0 + 1000000 * coefficients.k1 * r },
+    ghost most: { let r = density.hundredths in 100000000 * coefficients.k0 + 1000000 * coefficients.k1 * r ≤ 200000 * (r * r) + coefficients.minus_k2 * (r * r) },
 }
 
 impl Exponential {

@@ -10,7 +10,7 @@ pub struct CountedMass {
     ghost narrow: { pair.high ≤ℤ (pair.low +ℤ pos 1) },
 }
 
-/// A mass that a reference gives, in milligrams.
+/// A mass that a reference gives, in milligrams. Its width grows with it, so no size would make one type of the two.
 #[derive(Clone, Copy, Drop)]
 pub struct ReferenceMass {
     pub pair: Pair,

@@ -1,4 +1,5 @@
-// Readings in their ranges, as natural numbers.
+// Readings in their ranges, as natural numbers. Each kind has a type of its own: one over two const parameters would not name its unit,
+// and would let a reading stand for another of the same range.
 ghost use Rattle.std.specs.Prelude.{◌≡◌, ◌≤◌, true, false, pos, ◌+ℤ◌, MatchOption};
 ghost use Rattle.pass.specs.Ranges.{between, temperate, pressed, dense};
 

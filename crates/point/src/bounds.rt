@@ -11,7 +11,7 @@ pub struct Bounds {
 }
 
 impl Bounds {
-    /// The ends of a pair that is not negative.
+    /// The ends of a pair that is not negative; a `From` could not ask that.
     pub fn of(pair: Pair) -> Bounds
         requires { pos 0 ≤ℤ pair.low }
         ensures low { result.low ≡ unsigned_abs pair.low }
@@ -23,7 +23,7 @@ impl Bounds {
         }
     }
 
-    /// The ends as a pair.
+    /// The ends as a pair; a `From` could not ask that they fit one.
     pub fn pair(self) -> Pair
         requires { self.high ≤ 1000000000000 }
         ensures low { result.low ≡ pos self.low }

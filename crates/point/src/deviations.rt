@@ -27,7 +27,7 @@ pub fn farthest(one: Level, other: Level) -> u64
     above.max(below)
 }
 
-/// The least and the greatest sum of squared deviations from a mean between two ends, in squared steps.
+/// The least and the greatest sum of squared deviations from a mean between two ends, in squared steps, in one loop as for the mean.
 pub(crate) fn spread<V: Statistic>(rows: &[Ends], mean: Level) -> Bounds
     requires { Workable V.Value.kind rows.now }
     ensures low { result.low ≡ sum_by (nearest² V.Value.kind mean.low mean.high) rows.now }

@@ -26,7 +26,7 @@ pub(crate) fn read<V: Statistic>(row: Ends) -> Level
     }
 }
 
-/// The ends of the rows, near 1, added up.
+/// The ends of the rows, near 1, added up: a loop, since two chains of iterators would read each row twice.
 fn total<V: Statistic>(rows: &[Ends]) -> Bounds
     requires { Workable V.Value.kind rows.now }
     ensures low { result.low ≡ sum_by (λ e. raised V.Value.kind e.low) rows.now }

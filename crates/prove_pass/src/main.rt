@@ -32,7 +32,7 @@ use vessel::compact::CompactProver;
 use vessel::pipe::PipeProver;
 use work::{against_master, against_prover, carry_of, volume_of};
 
-/// The answer to a line, by its word and its numbers.
+/// The answer to a line, by its word and its numbers: one table, which a list of closures would only spread.
 fn answer(
     alloc: Global,
     kept: &[Point],

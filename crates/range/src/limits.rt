@@ -15,6 +15,7 @@ impl<'a> GivenLimits<'a> {
         ensures accepted { IsSome result ↔ Limits steps.now }
         ensures same { IfSome result (λ limits. limits.steps.now ≡ steps.now) }
     {
+        // No `then`: its closure would owe the type's facts in clauses of its own.
         if steps.len() > 8 || !steps.iter().all(|&limit| limit <= 1_000_000) {
             return None;
         }

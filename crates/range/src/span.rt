@@ -29,7 +29,7 @@ pub type SystematicLimit = Span<310, 20_000_000>;
 pub type MixedError = Span<1_450, 100_000_000>;
 
 impl<const WIDTH: u64, const MOST: u64> Span<WIDTH, MOST> {
-    /// The ends of a pair that is as narrow and as small.
+    /// The ends of a pair that is as narrow and as small; a `From` could not ask that.
     pub(crate) fn of(pair: Pair) -> Self
         requires least { pos 0 ≤ℤ pair.low }
         requires narrow { pair.high ≤ℤ (pair.low +ℤ pos WIDTH) }
@@ -43,7 +43,7 @@ impl<const WIDTH: u64, const MOST: u64> Span<WIDTH, MOST> {
         }
     }
 
-    /// The ends as a pair.
+    /// The ends as a pair; a `From` could not ask that they fit one.
     pub(crate) fn pair(self) -> Pair
         requires { MOST ≤ 1000000000000 }
         ensures low { result.low ≡ pos self.entry.low }

@@ -11,7 +11,7 @@ use pass::passes::Passes;
 use pass::ranges::in_range;
 use pass::readings::Record;
 
-/// A master meter, by its factor.
+/// A master meter, by its factor. It has a type of its own, so that none is put where the meter under test is meant.
 #[derive(Clone, Copy, Drop)]
 pub struct MasterMeter {
     pub factor: Factor,

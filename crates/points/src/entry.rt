@@ -17,7 +17,7 @@ fn gather<V: Statistic>(points: &[&[Ends]]) -> Option<Reach>
     ensures { Gathered V.Value.kind points.now result }
 {
     let (last, before) = points.split_last().unwrap();
-    let mut reach = Reach::of(&point::<V>(last)?);
+    let mut reach = Reach::from(&point::<V>(last)?);
     for rows in before.iter().rev() {
         reach = reach.further(&point::<V>(rows)?);
     }

@@ -40,7 +40,7 @@ fn gather(points: &[Point]) -> Reach
     ensures { (k : Kind) (xs : List Fraction) (xss : List (List Fraction)) → PointsHold k points.now (xs ∷ xss) → Reaches k xs xss result }
 {
     let (last, before) = points.split_last().unwrap();
-    before.iter().rev().fold(Reach::of(last), Reach::further)
+    before.iter().rev().fold(Reach::from(last), Reach::further)
 }
 
 /// The figures of a range of 2 to 10 points.

@@ -23,11 +23,11 @@ pub struct Reach {
     pub neighbours: HalfGap,
 }
 
-impl Reach {
-    /// The reach of one point.
-    pub fn of(point: &Point) -> Reach
-        ensures { (k : Kind) (xs : List Fraction) → PointHolds k xs point.now → Reaches k xs [] result }
-    {
+/// The reach of one point.
+impl From<&Point> for Reach {
+    ghost from_gives = { λ point reach. (k : Kind) (xs : List Fraction) → PointHolds k xs point.now → Reaches k xs [] reach };
+
+    fn from(point: &Point) -> Reach {
         Reach {
             level: point.level,
             of_mean: MeanScatter::of(point.of_mean),
@@ -35,7 +35,9 @@ impl Reach {
             neighbours: HalfGap { low: 0, high: 0 },
         }
     }
+}
 
+impl Reach {
     /// The reach of a point and those that follow it: the larger of each figure, and the half-gap to the next.
     pub fn further(self, point: &Point) -> Reach
         ensures { Extends self point.now result }

@@ -6,7 +6,7 @@ pub loop-rows-init : goal.loop-rows-init
 loop-rows-init g c =
     let split = rw c.unwrap.ensures at c.split_last.ensures.cases in
     let left : c.into_iter-rows-iterator.result.iter.rest.now ≡ c.unwrap.result.1.now = cc in
-    (tt, tt, rw left (last_follows g.V.Value.kind c.args.points.now c.unwrap.result.1.now c.unwrap.result.0.now c.in_ok-point.field-0 c.of-reach.result split.0 c.in_ok-point.ensures c.of-reach.ensures))
+    (tt, tt, rw left (last_follows g.V.Value.kind c.args.points.now c.unwrap.result.1.now c.unwrap.result.0.now c.in_ok-point.field-0 c.from-reach.result split.0 c.in_ok-point.ensures c.from-reach.ensures))
 
 pub loop-rows-preserved : goal.loop-rows-preserved
 loop-rows-preserved g c =

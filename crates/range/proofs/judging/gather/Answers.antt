@@ -15,5 +15,5 @@ returns c = λ k xs xss h.
     let before = c.unwrap.result.1.now in
     let split = rw c.unwrap.ensures at c.split_last.ensures.cases in
     let reach = fold_over (rev_steps iter_steps_back) (λ y. y.now) _ (ReachesFrom last) _ (λ ps r p t f j call. (further_reach last ps p.now r t j (search rules), search rules))
-    c.rev.result (reverse before) c.of.result c.fold.result (YieldsList-from_rev_slice {s = c.rev.result} before (cc)).runs (last_reach last c.of.result c.of.ensures) c.fold.ensures.ran in
+    c.rev.result (reverse before) c.from.result c.fold.result (YieldsList-from_rev_slice {s = c.rev.result} before (cc)).runs (last_reach last c.from.result c.from.ensures) c.fold.ensures.ran in
     reach k xs xss (subst (λ (ps : List Point). PointsHold k ps (xs ∷ xss)) (split.0 ∙ ap (λ (ps : List Point). ps ++ last ∷ []) (sym (reverse-reverse before))) h)

@@ -1,6 +1,6 @@
 use Rattle.range.proofs.Greaters.{holds_first_root, holds_nought}
 use Rattle.range.proofs.Together.{holds_sizes}
-use Rattle.range.proofs.reach.Reach.of.Goals as goal
+use Rattle.range.proofs.reach.ReachFromRefPoint.from.Goals as goal
 
 pub returns : goal.returns
 returns c = λ k xs h.

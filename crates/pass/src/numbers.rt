@@ -45,8 +45,8 @@ impl From<Device> for u8 {
 impl From<Fault> for Denial {
     ghost from_gives = { ReferenceDenied };
 
-    fn from(fault: Fault) -> Denial {
-        Denial::Reference(fault)
+    fn from(fault: Fault) -> Self {
+        Self::Reference(fault)
     }
 }
 
@@ -63,7 +63,7 @@ impl Denial {
         }
     }
 
-    /// What the denial carries, 0 where there is nothing: a figure's place; the meter's field; the reference's device and field.
+    /// What the denial carries, which is no conversion either, 0 where there is nothing: a figure's place; the meter's field; the reference's device and field.
     pub fn carried(&self) -> (u8, u8)
         ensures { result ≡ carried_by self.now }
     {

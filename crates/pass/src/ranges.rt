@@ -3,7 +3,7 @@
 ghost use Rattle.std.specs.Prelude.{◌≡◌, ◌≤◌, true, false, pos, ◌+ℤ◌, MatchOption};
 ghost use Rattle.pass.specs.Ranges.{between, temperate, pressed, dense};
 
-/// A reading as a natural number, if it lies in its range.
+/// A reading as a natural number, if it lies in its range, which no `TryFrom` is given.
 pub fn in_range(reading: i32, least: u32, most: u32) -> Option<u32>
     ensures { MatchOption result (between (pos least) (pos most) reading ≡ false) (λ n. (between (pos least) (pos most) reading ≡ true) × (reading ≡ pos n) × (least ≤ n) × (n ≤ most)) }
 {

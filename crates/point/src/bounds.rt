@@ -2,7 +2,7 @@ ghost use Rattle.std.specs.Prelude.{◌≡◌, ◌≤◌, pos, ◌≤ℤ◌, uns
 
 use exact::pair::Pair;
 
-/// A figure that is not negative as two ends, the lower never above the upper.
+/// A figure that is not negative as two ends, the lower never above the upper: a `Pair` without signs, for arithmetic that has none.
 #[derive(Clone, Copy, Drop)]
 pub struct Bounds {
     pub low: u64,

@@ -14,7 +14,7 @@ use crate::level::Level;
 use crate::statistic::Statistic;
 use exact::pair::Pair;
 
-/// A row made into a pair near 1, as it is read.
+/// A row made into a pair near 1, as it is read; a `From` could not ask that it fits.
 pub(crate) fn read<V: Statistic>(row: Ends) -> Level
     requires { Fits V.Value.kind row }
     ensures low { result.low ≡ raised V.Value.kind row.low }
@@ -55,7 +55,7 @@ pub(crate) fn mean_level<V: Statistic>(rows: &[Ends]) -> Level
     }
 }
 
-/// A pair near 1 as a pair of the value.
+/// A pair near 1 as a pair of the value, by the value's kind, which no `From` is given.
 pub(crate) fn lowered<V: Statistic>(level: Level) -> Pair
     ensures low { result.low +ℤ pos (raise V.Value.kind) ≡ pos level.low }
     ensures high { result.high +ℤ pos (raise V.Value.kind) ≡ pos level.high }

@@ -25,7 +25,7 @@ impl TankScale {
     pub fn open(shown: u64) -> Option<TankScale>
         ensures { MatchOption result (showing shown ≡ false) (λ s. (showing shown ≡ true) × (s.shown ≡ shown)) }
     {
-        if shown < 10_000_000 || shown > 30_000_000_000 {
+        if !(10_000_000..=30_000_000_000).contains(&shown) {
             return None;
         }
         Some(TankScale { shown })

@@ -22,27 +22,11 @@ pub struct MeterFactor;
 #[derive(Clone, Copy, Drop)]
 pub struct Correction;
 
-/// The meter's mass over the reference's, in steps.
-fn meter_by_reference(masses: &Masses) -> Pair
-    ensures value { Valued K masses.now result }
-    ensures range { (pos 90000000 ≤ℤ result.low) × (result.high ≤ℤ pos 111111112) }
-{
-    ratio(masses.meter.pair, masses.reference.pair)
-}
-
-/// The reference's mass over the meter's, in steps.
-fn reference_by_meter(masses: &Masses) -> Pair
-    ensures value { Valued MF masses.now result }
-    ensures range { (pos 90000000 ≤ℤ result.low) × (result.high ≤ℤ pos 110000000) }
-{
-    ratio(masses.reference.pair, masses.meter.pair)
-}
-
 impl Value for PulseFactor {
     ghost kind = { K };
 
     fn of(masses: &Masses) -> Pair {
-        meter_by_reference(masses)
+        ratio(masses.meter.pair, masses.reference.pair)
     }
 }
 
@@ -54,7 +38,7 @@ impl Value for MeterFactor {
     ghost kind = { MF };
 
     fn of(masses: &Masses) -> Pair {
-        reference_by_meter(masses)
+        ratio(masses.reference.pair, masses.meter.pair)
     }
 }
 
@@ -66,6 +50,6 @@ impl Value for Correction {
     ghost kind = { Signed };
 
     fn of(masses: &Masses) -> Pair {
-        less_one(reference_by_meter(masses))
+        less_one(MeterFactor::of(masses))
     }
 }

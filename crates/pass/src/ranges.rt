@@ -1,5 +1,5 @@
-// Readings in their ranges, as natural numbers. Each kind has a type of its own: one over two const parameters would not name its unit,
-// and would let a reading stand for another of the same range.
+// Readings in their ranges, as natural numbers. Each kind has a type of its own, whose field names its unit, which
+// one type over two const parameters could not.
 ghost use Rattle.std.specs.Prelude.{◌≡◌, ◌≤◌, true, false, pos, ◌+ℤ◌, MatchOption};
 ghost use Rattle.pass.specs.Ranges.{between, temperate, pressed, dense};
 
@@ -9,7 +9,7 @@ pub fn in_range(reading: i32, least: u32, most: u32) -> Option<u32>
 {
     u32::try_from(reading)
         .ok()
-        .filter(|n| least <= *n && *n <= most)
+        .filter(|n| (least..=most).contains(n))
 }
 
 /// A temperature that was read, in hundredths of a degree above −10 °C.
@@ -24,7 +24,7 @@ impl Temperature {
     pub fn new(reading: i32) -> Option<Temperature>
         ensures { MatchOption result (temperate reading ≡ false) (λ t. (temperate reading ≡ true) × (reading +ℤ pos 1000 ≡ pos t.raised)) }
     {
-        if reading < -1_000 || reading > 5_000 {
+        if !(-1_000..=5_000).contains(&reading) {
             return None;
         }
         Some(Temperature {

@@ -5,6 +5,7 @@ ghost use Rattle.pass.specs.Ranges.{between};
 use pass::ranges::Density;
 
 /// What gives the thermal expansion at 15 °C together with the density r there: b = K0/r² + K1/r + K2.
+/// They are those of a group of liquids, and r is the one liquid's, so that it stands beside them.
 #[derive(Clone, Copy, Drop)]
 pub struct Coefficients {
     /// K0, in 10⁻⁴.
@@ -20,7 +21,7 @@ pub struct Coefficients {
 pub(crate) fn downward(k2: i32) -> Option<u32>
     ensures { MatchOption result (between (negsuc 339999) (pos 0) k2 ≡ false) (λ n. (between (negsuc 339999) (pos 0) k2 ≡ true) × (k2 ≡ neg_ℤ (pos n)) × (n ≤ 340000)) }
 {
-    if k2 < -340_000 || k2 > 0 {
+    if !(-340_000..=0).contains(&k2) {
         return None;
     }
     Some(k2.unsigned_abs())

@@ -15,7 +15,7 @@ pub(crate) fn rising(size: u128) -> u128
     parts.even + parts.odd
 }
 
-/// e(−a) for an argument of this size.
+/// e(−a) for an argument of this size: the sign is that of the odd terms, so that no number here has one.
 #[tactic(auto, using(expsum::proofs::Bounds::odd_less), unfolding(crate::specs::Rounded::falling))]
 pub(crate) fn falling(size: u128) -> u128
     requires small { size ≤ 1050000000000 }

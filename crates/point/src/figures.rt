@@ -3,7 +3,7 @@ ghost use Rattle.std.specs.Prelude.{◌+◌, ◌≤◌, pos, ◌+ℤ◌, ◌≤�
 use crate::level::Level;
 use exact::pair::Pair;
 
-/// The figures of one flow point, in steps.
+/// The figures of one flow point, in steps: pairs, as every figure that a maker is given, whether it can be negative or not.
 #[derive(Clone, Copy, Drop)]
 pub struct Point {
     /// x, the mean.

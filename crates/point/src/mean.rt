@@ -1,4 +1,4 @@
-// The mean of a point. The rows stay a plain slice, each made into a level as it is read; what they must meet is said once, by `Workable`.
+// The mean of a point. The rows stay a plain slice, each made into a level as it is read; what they must meet is `Workable`, here and below.
 ghost use Rattle.std.specs.Prelude.{◌≡◌, ◌+◌, ◌*◌, ◌<◌, ◌≤◌, List, length, pos, ◌+ℤ◌, sum_by};
 ghost use Rattle.exact.specs.Fractions.{Fraction};
 ghost use Rattle.exact.specs.Figures.{number};
@@ -26,7 +26,7 @@ pub(crate) fn read<V: Statistic>(row: Ends) -> Level
     }
 }
 
-/// The ends of the rows, near 1, added up: a loop, since two chains of iterators would read each row twice.
+/// The ends of the rows, near 1, added up: a loop, since a fold's closure would have to ask that its row fits.
 fn total<V: Statistic>(rows: &[Ends]) -> Bounds
     requires { Workable V.Value.kind rows.now }
     ensures low { result.low ≡ sum_by (λ e. raised V.Value.kind e.low) rows.now }

@@ -1,7 +1,8 @@
 // What the statistics of a point ask of a kind of value.
-ghost use Rattle.std.specs.Prelude.{◌≡◌, ℤ, pos, ◌+ℤ◌, ◌≤ℤ◌, unsigned_abs, refl};
+ghost use Rattle.std.specs.Prelude.{◌≡◌, ℤ, pos, negsuc, ◌+ℤ◌, ◌≤ℤ◌, unsigned_abs, refl};
 ghost use Rattle.pass.specs.Kinds.{K, MF, F as Signed, least, most};
 ghost use Rattle.point.specs.Levels.{raise, against_end};
+ghost use Rattle.std.proofs.Common.{rules};
 
 use crate::level::Level;
 use exact::pair::Pair;
@@ -33,6 +34,9 @@ pub trait Statistic: Value {
 
     // the constants are those of the kind
     ghost of_kind: { (RAISE ≡ pos (raise Self.Value.kind)) × (LEAST ≡ least Self.Value.kind) × (MOST ≡ most Self.Value.kind) };
+
+    // no kind's values leave these steps
+    ghost ranged: { (negsuc 9999999 ≤ℤ LEAST) × (LEAST ≤ℤ MOST) × (MOST ≤ℤ pos 111111112) };
 }
 
 /// The mean of a ratio, as what divides: it is never near 0.
@@ -63,6 +67,8 @@ impl Statistic for PulseFactor {
 
     ghost of_kind = { (refl, refl, refl) };
 
+    ghost ranged = { Prim.search rules };
+
     fn divisor(mean: Pair) -> Level {
         by_mean::<PulseFactor>(mean)
     }
@@ -83,6 +89,8 @@ impl Statistic for MeterFactor {
 
     ghost of_kind = { (refl, refl, refl) };
 
+    ghost ranged = { Prim.search rules };
+
     fn divisor(mean: Pair) -> Level {
         by_mean::<MeterFactor>(mean)
     }
@@ -102,6 +110,8 @@ impl Statistic for Correction {
     ghost MOST = { most Signed };
 
     ghost of_kind = { (refl, refl, refl) };
+
+    ghost ranged = { Prim.search rules };
 
     fn divisor(_mean: Pair) -> Level {
         Level {

@@ -2,7 +2,7 @@
 ghost use Rattle.std.specs.Prelude.{◌≡◌, ◌≤◌};
 ghost use Rattle.point.specs.Points.{student};
 
-/// Student's t at 0.95 for 5 to 20 passes, in thousandths.
+/// Student's t at 0.95 for 5 to 20 passes, in thousandths: a table, as it is printed.
 const STUDENT: [u16; 16] = [
     2776, 2571, 2447, 2365, 2306, 2262, 2228, 2201, 2179, 2160, 2145, 2131, 2120, 2110, 2101, 2093,
 ];

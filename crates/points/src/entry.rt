@@ -11,7 +11,7 @@ use range::limits::GivenLimits;
 use range::reach::Reach;
 
 /// The reach of points, each given by its rows, taken from the last to the first.
-// A loop beside range's `gather`, where no point is refused: one function for both would wrap each given point in an Option.
+// A loop beside range's `gather`, where no point is refused: one function for both, or a fold that may refuse, would wrap each given point in an Option.
 fn gather<V: Statistic>(points: &[&[Ends]]) -> Option<Reach>
     requires { 1 ≤ length points.now }
     ensures { Gathered V.Value.kind points.now result }

@@ -10,7 +10,7 @@ use vessel::section::SectionFigures;
 
 /// What is opened from figures that follow one another in a line.
 pub trait FromFigures: Sized + Drop {
-    /// How many figures it is opened from.
+    /// How many figures it is opened from; of 8 bits, so that those of two and one more add up.
     const FIGURES: u8;
 
     // the constant, as clauses read it

@@ -5,7 +5,8 @@ ghost use Rattle.pass.specs.Readings.{InOrder};
 use pass::readings::Record;
 use std::alloc::{AllocError, Global};
 
-/// The whole numbers of a text, with one space between; nothing where a word is no whole number of 32 bits.
+/// The whole numbers of a text, with one space between; nothing where a word is no whole number of 32 bits, as of an empty text:
+/// a range without numbers has no given limits, so its line may be either.
 pub fn numbers(alloc: Global, text: &str) -> Result<Vec<i32>, AllocError> {
     let mut found = Vec::new(alloc);
     // A loop and no chain: want of memory is an error, but a word that is no number only leaves nothing.

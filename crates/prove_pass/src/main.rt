@@ -32,7 +32,8 @@ use vessel::compact::CompactProver;
 use vessel::pipe::PipeProver;
 use work::{against_master, against_prover, carry_of, volume_of};
 
-/// The answer to a line, by its word and its numbers: one table, which a list of closures would only spread.
+/// The answer to a line, by its word and its numbers; want of memory is an error of the program, a refusal is printed. It is one
+/// table, which a list of closures would only spread.
 fn answer(
     alloc: Global,
     kept: &[Point],
@@ -67,6 +68,7 @@ fn serve(rt: &(impl Print + AllocGlobal), kept: &mut Vec<Point>, text: &str) -> 
         Ok(answer) => println!(rt; "{answer}")?,
         Err(refusal) => println!(rt; "{refusal}")?,
     }
+    // A range that was refused lets the points go, too, so the word decides and not the answer.
     if word == "range" {
         kept.clear();
     }

@@ -132,12 +132,13 @@ impl fmt::Display for Refusal {
             Refusal::Unread => write!(f, "?"),
             Refusal::Denied(denial) => {
                 let number = denial.number();
-                let (first, second) = denial.carried();
                 match denial {
-                    Denial::Figure(_) => write!(f, "denied {number} place {first}"),
-                    Denial::Meter(_) => write!(f, "denied {number} field {first}"),
-                    Denial::Reference(_) => {
-                        write!(f, "denied {number} device {first} field {second}")
+                    Denial::Figure(place) => write!(f, "denied {number} place {place}"),
+                    Denial::Meter(field) => write!(f, "denied {number} field {}", u8::from(*field)),
+                    Denial::Reference(fault) => {
+                        let device = u8::from(fault.device);
+                        let field = u8::from(fault.field);
+                        write!(f, "denied {number} device {device} field {field}")
                     }
                     Denial::Value => write!(f, "denied {number}"),
                 }

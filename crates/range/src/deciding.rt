@@ -30,16 +30,18 @@ impl Ratio {
         10 * self.systematic.high < 8 * self.of_mean.low
     }
 
-    /// The rules left where the pairs do not decide whether Θ exceeds 8·S0.
-    fn upper_open(self) -> Left
-        requires { (self.systematic.low ≤ 8 * self.of_mean.high) × (8 * self.of_mean.low ≤ self.systematic.high) }
-        ensures { (θ² s² : Fraction) → SpanHolds self.systematic (root θ²) → SpanHolds self.of_mean (root s²) → Decided θ² s² result }
+    /// Whether Θ may exceed 8·S0.
+    fn may_exceed_upper(self) -> bool
+        ensures { IsTrue result ↔ (8 * self.of_mean.low < self.systematic.high) }
     {
-        if 10 * self.systematic.low < 8 * self.of_mean.high {
-            Left::Both
-        } else {
-            Left::Upper
-        }
+        self.systematic.high > 8 * self.of_mean.low
+    }
+
+    /// Whether Θ may lie below 0.8·S0.
+    fn may_fall_below_lower(self) -> bool
+        ensures { IsTrue result ↔ (10 * self.systematic.low < 8 * self.of_mean.high) }
+    {
+        10 * self.systematic.low < 8 * self.of_mean.high
     }
 
     /// The rules that the pairs leave, Θ being compared with 8·S0 and with 0.8·S0.
@@ -52,12 +54,11 @@ impl Ratio {
         if self.below_lower() {
             return Left::Random;
         }
-        if self.systematic.high > 8 * self.of_mean.low {
-            return self.upper_open();
+        match (self.may_exceed_upper(), self.may_fall_below_lower()) {
+            (true, true) => Left::Both,
+            (true, false) => Left::Upper,
+            (false, true) => Left::Lower,
+            (false, false) => Left::Mixed,
         }
-        if 10 * self.systematic.low < 8 * self.of_mean.high {
-            return Left::Lower;
-        }
-        Left::Mixed
     }
 }

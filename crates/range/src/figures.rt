@@ -3,7 +3,7 @@ ghost use Rattle.std.specs.Prelude.{pos, ◌+ℤ◌, ◌≤ℤ◌};
 use crate::left::Left;
 use exact::pair::Pair;
 
-/// The figures of a range, in steps.
+/// The figures of a range, in steps: pairs, as every figure that a maker is given.
 #[derive(Clone, Copy, Drop)]
 pub struct Range {
     /// S0, the largest over the points.

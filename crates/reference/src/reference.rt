@@ -32,7 +32,7 @@ pub trait Reference {
     // the least numbers of passes
     ghost least: { Self → PassesT };
 
-    /// The least numbers of passes at a point.
+    /// The least numbers of passes at a point: of this reference, which may have them from a device that it is made of.
     fn passes(&self) -> Passes
         ensures { result ≡ least self.now };
 

@@ -1,5 +1,5 @@
 use Rattle.std.proofs.Common.{arith}
-use Rattle.range.proofs.Edges.{near_lower, not_systematic, systematic_sure, random_sure, mixed_sure}
+use Rattle.range.proofs.Edges.{near_upper, near_lower, not_systematic, not_random, systematic_sure, random_sure, mixed_sure}
 use Rattle.range.proofs.deciding.Ratio.decide.Goals as goal
 
 pub returns-then-above_upper : goal.returns-then-above_upper
@@ -8,11 +8,23 @@ returns-then-above_upper c = λ θ² s² h k. systematic_sure c.args.self.system
 pub returns-then-below_lower : goal.returns-then-below_lower
 returns-then-below_lower c = λ θ² s² h k. random_sure c.args.self.systematic c.args.self.of_mean θ² s² h k (omega arith)
 
-pub returns-then-self-2 : goal.returns-then-self-2
-returns-then-self-2 c = λ θ² s² h k.
+pub returns-in-true-true : goal.returns-in-true-true
+returns-in-true-true c = λ θ² s² h k.
     let t = c.args.self.systematic in
     let s = c.args.self.of_mean in
-    (near_lower t s θ² s² h k (omega arith) (grind arith), not_systematic t s θ² s² h k (omega arith))
+    (near_upper t s θ² s² h k (grind arith) (grind arith), near_lower t s θ² s² h k (grind arith) (grind arith))
 
-pub returns : goal.returns
-returns c = λ θ² s² h k. mixed_sure c.args.self.systematic c.args.self.of_mean θ² s² h k (omega arith) (omega arith)
+pub returns-in-true-false : goal.returns-in-true-false
+returns-in-true-false c = λ θ² s² h k.
+    let t = c.args.self.systematic in
+    let s = c.args.self.of_mean in
+    (near_upper t s θ² s² h k (grind arith) (grind arith), not_random t s θ² s² h k (grind arith))
+
+pub returns-in-false-true : goal.returns-in-false-true
+returns-in-false-true c = λ θ² s² h k.
+    let t = c.args.self.systematic in
+    let s = c.args.self.of_mean in
+    (near_lower t s θ² s² h k (grind arith) (grind arith), not_systematic t s θ² s² h k (grind arith))
+
+pub returns-in-false-false : goal.returns-in-false-false
+returns-in-false-false c = λ θ² s² h k. mixed_sure c.args.self.systematic c.args.self.of_mean θ² s² h k (grind arith) (grind arith)

@@ -22,11 +22,27 @@ pub struct MeterFactor;
 #[derive(Clone, Copy, Drop)]
 pub struct Correction;
 
+/// The meter's mass over the reference's, in steps: a function of its own, as the next one, since their ranges differ.
+fn meter_by_reference(masses: &Masses) -> Pair
+    ensures value { Valued K masses.now result }
+    ensures range { (pos 90000000 ≤ℤ result.low) × (result.high ≤ℤ pos 111111112) }
+{
+    ratio(masses.meter.pair, masses.reference.pair)
+}
+
+/// The reference's mass over the meter's, in steps.
+fn reference_by_meter(masses: &Masses) -> Pair
+    ensures value { Valued MF masses.now result }
+    ensures range { (pos 90000000 ≤ℤ result.low) × (result.high ≤ℤ pos 110000000) }
+{
+    ratio(masses.reference.pair, masses.meter.pair)
+}
+
 impl Value for PulseFactor {
     ghost kind = { K };
 
     fn of(masses: &Masses) -> Pair {
-        ratio(masses.meter.pair, masses.reference.pair)
+        meter_by_reference(masses)
     }
 }
 
@@ -38,7 +54,7 @@ impl Value for MeterFactor {
     ghost kind = { MF };
 
     fn of(masses: &Masses) -> Pair {
-        ratio(masses.reference.pair, masses.meter.pair)
+        reference_by_meter(masses)
     }
 }
 
@@ -50,6 +66,6 @@ impl Value for Correction {
     ghost kind = { Signed };
 
     fn of(masses: &Masses) -> Pair {
-        less_one(MeterFactor::of(masses))
+        less_one(reference_by_meter(masses))
     }
 }

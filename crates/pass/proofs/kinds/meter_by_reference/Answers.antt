@@ -1,7 +1,7 @@
 use Rattle.std.proofs.Common.{nat_abs, arith}
 use Rattle.std.proofs.lemmas.Int.{ints}
 use Rattle.pass.proofs.Widths.{pulse_narrow, pulse_low, pulse_high}
-use Rattle.pass.proofs.kinds.PulseFactorValue.of.Goals as goal
+use Rattle.pass.proofs.kinds.meter_by_reference.Goals as goal
 
 pub returns : goal.returns
 returns c =

@@ -1,7 +1,7 @@
 use Rattle.std.proofs.Common.{nat_abs, arith}
 use Rattle.std.proofs.lemmas.Int.{ints}
 use Rattle.pass.proofs.Widths.{factor_narrow, factor_low, factor_high}
-use Rattle.pass.proofs.kinds.MeterFactorValue.of.Goals as goal
+use Rattle.pass.proofs.kinds.reference_by_meter.Goals as goal
 
 pub returns : goal.returns
 returns c =

@@ -3,7 +3,7 @@ use crate::question::Question;
 use pass::denials::Field;
 use pass::ranges::{Pressure, Temperature};
 
-/// The conditions in the vessel and at the densitometer.
+/// The conditions in the vessel and at the densitometer: four fields and not two by two, since the linear liquid takes them crosswise.
 #[derive(Clone, Copy, Drop)]
 pub struct Conditions {
     pub wall_temperature: Temperature,

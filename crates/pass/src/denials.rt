@@ -34,7 +34,8 @@ pub enum Device {
     Mass,
 }
 
-/// Why a reference does not take a record: the device, and the lowest field that it faults.
+/// Why a reference does not take a record: the device, and the lowest field that it faults. It is written out where it arises, since
+/// these two words are all that it says.
 #[derive(Clone, Copy, PartialEq, Eq, Debug, Drop)]
 pub struct Fault {
     pub device: Device,

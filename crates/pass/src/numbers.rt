@@ -4,7 +4,8 @@ ghost use Rattle.pass.specs.Denials.{field_number, device_number, denial_number,
 
 use crate::denials::{Denial, Device, Fault, Field};
 
-/// The field's number in the record, 1 to 11; 0 for no one field.
+/// The field's number in the record, 1 to 11; 0 for no one field. A table, as the definition has it, so that the order in which the
+/// variants are declared says nothing.
 impl From<Field> for u8 {
     ghost from_gives = { λ field n. n ≡ field_number field };
 

@@ -9,7 +9,7 @@ use crate::level::Level;
 use crate::mean::read;
 use crate::statistic::Statistic;
 
-/// How near two figures may lie to each other, in steps: 0 where their pairs meet.
+/// How near two figures may lie to each other, in steps: 0 where their pairs meet. Neither is the one that is asked, so this is no method.
 pub fn nearest(one: Level, other: Level) -> u64
     ensures value { result ≡ nearest_of one.low one.high other.low other.high }
     ensures small { result ≤ 21111112 }

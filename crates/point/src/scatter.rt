@@ -31,6 +31,7 @@ fn bottom(shares: u64, end: u64) -> u128
 }
 
 /// What scatter is worked out from: the sum of squared deviations, in squared steps, and what scatter is divided by.
+/// Which exact values they hold is said in clauses, since no field has those values.
 #[derive(Clone, Copy, Drop)]
 pub(crate) struct Deviations {
     squares: Bounds,

@@ -31,7 +31,7 @@ impl Factors {
     }
 }
 
-/// The pair of a mass, in milligrams.
+/// The pair of a mass, in milligrams, also for a density below those that a densitometer gives.
 pub fn weigh(volume: Pair, density: u32, factor: Pair) -> Pair
     requires volume { (pos 0 ≤ℤ volume.low) × (volume.high ≤ℤ pos 23000000000) }
     requires density { density ≤ 120000 }

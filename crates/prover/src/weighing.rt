@@ -29,6 +29,7 @@ pub(crate) fn density(pass: &Record) -> Result<Density, Fault>
         device: Device::Densitometer,
         field,
     };
+    // The liquid reads these two again: it may be any liquid, and is asked by its own contract.
     Temperature::new(pass.densitometer_temperature).ok_or(fault(Field::DensitometerTemperature))?;
     Pressure::new(pass.densitometer_pressure).ok_or(fault(Field::DensitometerPressure))?;
     Density::new(pass.density).ok_or(fault(Field::Density))

@@ -37,7 +37,8 @@ pub struct Section {
 impl Section {
     ghost use Rattle.vessel.specs.Provers.{SectionOpened, stiffness as stiff, strained as strain};
 
-    /// A measuring section by its figures, or the denial of the first that is out of range.
+    /// A measuring section by its figures, or the denial of the first that is out of range: opened, like the provers, and no conversion.
+    /// The definitions name the four figures one by one, as a certificate does.
     pub(crate) fn open(figures: &SectionFigures) -> Result<Section, Denial>
         ensures { SectionOpened figures.now.volume figures.now.bore figures.now.wall figures.now.modulus result }
     {

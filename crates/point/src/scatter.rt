@@ -1,10 +1,10 @@
 // S, the scatter of a point's values; S0, the scatter of their mean; and ε, the random limit.
-ghost use Rattle.std.specs.Prelude.{◌≡◌, ℕ, ◌+◌, ◌-◌, ◌*◌, ◌^◌, ◌<◌, ◌≤◌, List, length, pos, ◌+ℤ◌, ◌≤ℤ◌};
+ghost use Rattle.std.specs.Prelude.{◌≡◌, ℕ, ◌+◌, ◌-◌, ◌*◌, ◌^◌, ◌<◌, ◌≤◌, List, length, pos, ◌+ℤ◌, ◌≤ℤ◌, unsigned_abs};
 ghost use Rattle.exact.specs.Fractions.{Fraction};
 ghost use Rattle.exact.specs.Figures.{number};
-ghost use Rattle.exact.specs.Pairs.{Holds, steps};
+ghost use Rattle.exact.specs.Pairs.{Holds, steps, floor, ceiling};
 ghost use Rattle.pass.specs.Kinds.{Kind};
-ghost use Rattle.point.specs.Points.{mean as exact_mean, scatter as exact_scatter, of_mean as exact_of_mean, random as exact_random};
+ghost use Rattle.point.specs.Points.{mean as exact_mean, scatter as exact_scatter, of_mean as exact_of_mean, random as exact_random, student};
 ghost use Rattle.point.specs.Levels.{level as level_of};
 ghost use Rattle.point.specs.Deviations.{Deviates};
 ghost use Rattle.point.specs.Rows.{Held};
@@ -91,11 +91,14 @@ impl Deviations {
     }
 }
 
-/// ε = t·S0, in steps.
+/// ε = t·S0, in steps; each end is rounded once.
+#[tactic(auto, using(exact::proofs::Quotients::div_ceil_ceiling))]
 pub(crate) fn random_limit(passes: usize, of_mean: Pair) -> Pair
     requires passes { (5 ≤ passes) × (passes ≤ 20) }
     requires range { (pos 0 ≤ℤ of_mean.low) × (of_mean.high ≤ℤ pos 14000520) }
     requires narrow { of_mean.high ≤ℤ (of_mean.low +ℤ pos 520) }
+    ensures low { result.low ≡ pos (floor (student passes * unsigned_abs of_mean.low) 1000) }
+    ensures high { result.high ≡ pos (ceiling (student passes * unsigned_abs of_mean.high) 1000) }
     ensures holds { (k : Kind) (xs : List Fraction) → length xs ≡ passes → Holds steps of_mean.low of_mean.high (exact_of_mean k xs) → Holds steps result.low result.high (exact_random k xs) }
     ensures range { (pos 0 ≤ℤ result.low) × (result.high ≤ℤ pos 40000000) }
     ensures narrow { result.high ≤ℤ (result.low +ℤ pos 1450) }

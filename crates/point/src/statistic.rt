@@ -52,6 +52,7 @@ fn by_mean<V: RatioValue>(mean: Pair) -> Level
     }
 }
 
+// Two blocks that differ in K and MF: one over every `RatioValue` would overlap with F's, as far as Rust can tell here.
 impl Statistic for PulseFactor {
     const RAISE: i64 = 0;
 

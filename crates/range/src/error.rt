@@ -1,7 +1,8 @@
 // The error of the meter over the range.
-ghost use Rattle.std.specs.Prelude.{◌≡◌, ◌≤◌, min, max, pos};
+ghost use Rattle.std.specs.Prelude.{◌≡◌, ◌+◌, ◌*◌, ◌≤◌, min, max, pos};
 ghost use Rattle.exact.specs.Fractions.{Fraction};
 ghost use Rattle.exact.specs.Figures.{root};
+ghost use Rattle.exact.specs.Pairs.{floor, ceiling};
 ghost use Rattle.range.specs.Outcomes.{Decided, ErrorHolds};
 ghost use Rattle.range.specs.Rules.{mixed as by_both, error_by};
 ghost use Rattle.range.specs.Span.{SpanHolds};
@@ -10,9 +11,12 @@ use crate::left::Left;
 use crate::span::{MixedError, RandomLimit, SystematicLimit};
 use point::bounds::Bounds;
 
-/// 0.81·(Θ + ε), in steps.
+/// 0.81·(Θ + ε), in steps; each end is rounded once.
+#[tactic(auto, using(exact::proofs::Quotients::div_ceil_ceiling))]
 fn mixed(systematic: SystematicLimit, random: RandomLimit) -> MixedError
-    ensures { (θ² ε² : Fraction) → SpanHolds systematic (root θ²) → SpanHolds random (root ε²) → SpanHolds result (error_by by_both θ² ε²) }
+    ensures low { result.low ≡ floor (81 * (systematic.low + random.low)) 100 }
+    ensures high { result.high ≡ ceiling (81 * (systematic.high + random.high)) 100 }
+    ensures holds { (θ² ε² : Fraction) → SpanHolds systematic (root θ²) → SpanHolds random (root ε²) → SpanHolds result (error_by by_both θ² ε²) }
 {
     MixedError {
         low: 81 * (systematic.low + random.low) / 100,

@@ -17,21 +17,21 @@ returns-in-Random-clause-holds c = λ θ² s² ε² d h k.
 pub returns-in-Mixed-clause-holds : goal.returns-in-Mixed-clause-holds
 returns-in-Mixed-clause-holds c = λ θ² s² ε² d h k.
     let m = c.from-both.ensures in
-    rw (m.0, m.1) (error_one θ² s² ε² mixed _ _ (subst (Decided θ² s²) c.in-Mixed.is d) c.mixed.result.narrow (c.mixed.ensures θ² ε² h k))
+    rw (m.0, m.1) (error_one θ² s² ε² mixed _ _ (subst (Decided θ² s²) c.in-Mixed.is d) c.mixed.result.narrow (c.mixed.ensures.holds θ² ε² h k))
 
 pub returns-in-Upper-clause-holds : goal.returns-in-Upper-clause-holds
 returns-in-Upper-clause-holds c = λ θ² s² ε² d h k.
     let t = c.args.systematic in
     let m = c.mixed.result in
     let u = subst (Decided θ² s²) c.in-Upper.is d in
-    error_two θ² s² ε² systematic mixed t.low t.high m.low m.high (inl u.0) (inr u.0) (inr (inl u.0)) u.1 (omega arith) m.narrow h (c.mixed.ensures θ² ε² h k) _ _ (cc) (cc)
+    error_two θ² s² ε² systematic mixed t.low t.high m.low m.high (inl u.0) (inr u.0) (inr (inl u.0)) u.1 (omega arith) m.narrow h (c.mixed.ensures.holds θ² ε² h k) _ _ (cc) (cc)
 
 pub returns-in-Lower-clause-holds : goal.returns-in-Lower-clause-holds
 returns-in-Lower-clause-holds c = λ θ² s² ε² d h k.
     let e = c.args.random in
     let m = c.mixed.result in
     let u = subst (Decided θ² s²) c.in-Lower.is d in
-    error_two θ² s² ε² random mixed e.low e.high m.low m.high (inr u.0) (inr u.0) (inr (inr u.0)) u.1 e.narrow m.narrow k (c.mixed.ensures θ² ε² h k) _ _ (cc) (cc)
+    error_two θ² s² ε² random mixed e.low e.high m.low m.high (inr u.0) (inr u.0) (inr (inr u.0)) u.1 e.narrow m.narrow k (c.mixed.ensures.holds θ² ε² h k) _ _ (cc) (cc)
 
 pub returns-in-Both-clause-holds : goal.returns-in-Both-clause-holds
 returns-in-Both-clause-holds c = λ θ² s² ε² d h k.
@@ -39,4 +39,4 @@ returns-in-Both-clause-holds c = λ θ² s² ε² d h k.
     let e = c.args.random in
     let m = c.mixed.result in
     let u = subst (Decided θ² s²) c.in-Both.is d in
-    error_three θ² s² ε² t.low t.high e.low e.high m.low m.high u.0 u.1 (omega arith) e.narrow m.narrow h k (c.mixed.ensures θ² ε² h k) _ _ (cc) (cc)
+    error_three θ² s² ε² t.low t.high e.low e.high m.low m.high u.0 u.1 (omega arith) e.narrow m.narrow h k (c.mixed.ensures.holds θ² ε² h k) _ _ (cc) (cc)

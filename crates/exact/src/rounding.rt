@@ -60,6 +60,7 @@ fn steps(top: i64, bottom: i64) -> Quotient
 }
 
 /// The quotient of two figures, in steps; both are in one unit, and the lower one is above 0.
+#[tactic(auto, using(crate::proofs::Quotients::floor_fits, crate::proofs::Quotients::ceil_fits))]
 pub fn ratio(top: Pair, bottom: Pair) -> Pair
     requires top { (pos 0 ≤ℤ top.low) × (top.high ≤ℤ pos 1000000000000) }
     requires bottom { pos 1 ≤ℤ bottom.low }

@@ -158,15 +158,19 @@ falling x size zero s n = subst (λ (t : Terms). Falling x size 0 t) (sym (terms
 falling x size (suc j) s n =
     subst (λ (t : Terms). Falling x size (suc j) t) (sym (terms_more size j)) (falling_turn x size j (terms size j) s (last_most size j (terms size j).last s refl) n (falling x size j s n))
 
--- e(x) for an argument that is not negative, and for one that is not positive
+-- e(x) for an argument that is not negative, and for one that is not positive: its two parts as far as the sum goes, and their difference
+-- where that is well above 0
 pub sum_rising : (x : Fraction) (size : ℕ) → size ≤ 1500000000000 → Near 4 size x → Near 400 ((terms size 9).even + (terms size 9).odd) (e x)
 unfolding e
 sum_rising x size s n =
     let z = sized size s in
     close_near ((terms size 9).even + (terms size 9).odd) (omega arith) (omega (arith, z.least, z.odd_least)) (rising x size 9 s n).sum
 
-pub sum_falling : (x : Fraction) (size : ℕ) → size ≤ 1050000000000 → Near 4 size (neg x) → Near 400 ((terms size 9).even - (terms size 9).odd) (e x)
+pub parts_falling : (x : Fraction) (size : ℕ) → size ≤ 1500000000000 → Near 4 size (neg x) → Close 400 (terms size 9).even (terms size 9).odd (e x)
 unfolding e
+parts_falling x size s n = (falling x size 9 s n).sum
+
+pub sum_falling : (x : Fraction) (size : ℕ) → size ≤ 1050000000000 → Near 4 size (neg x) → Near 400 ((terms size 9).even - (terms size 9).odd) (e x)
 sum_falling x size s n =
     let l = odd_less size s in
-    close_near ((terms size 9).even - (terms size 9).odd) (omega arith) (omega arith) (falling x size 9 (omega arith) n).sum
+    close_near ((terms size 9).even - (terms size 9).odd) (omega arith) (omega arith) (parts_falling x size (omega arith) n)

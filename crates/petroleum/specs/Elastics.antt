@@ -1,7 +1,7 @@
 -- The elastic part of the exponential liquid: 1 − gP in whole units of 10⁻¹².
 -- The exponent of 1,000·g is U/b − W/10¹⁰, where b is the density's square in its unit.
 use Rattle.std.specs.Prelude.{◌≡◌, ℕ, ◌+◌, ◌-◌, ◌*◌, ◌/◌, ◌<◌, ◌≤◌, Bool, true, false, cond, ℤ, pos, ◌+ℤ◌, ◌-ℤ◌, nat_le, refl}
-use Rattle.std.proofs.Common.{sym, subst, arith, leb-true, leb-false, mul-pos, mul-le-mul, mul-le-mul_left, mul-le-mul_right, le_of_mul-le-mul_right, lit<}
+use Rattle.std.proofs.Common.{arith, leb-true, leb-false, mul-pos, mul-le-mul, mul-le-mul_left, mul-le-mul_right, le_of_mul-le-mul_right, lit<}
 use Rattle.std.proofs.lemmas.Int.{ints}
 use Rattle.std.proofs.lemmas.Bool.{cond_both}
 use Rattle.exact.specs.Fractions.{Fraction, neg}
@@ -9,7 +9,7 @@ use Rattle.exact.proofs.Worth.{Worth, worth_nat, worth_add, worth_neg, worth_mul
 use Rattle.exact.proofs.Quotients.{floor_under}
 use Rattle.expsum.specs.Series.{e}
 use Rattle.expsum.specs.Terms.{terms}
-use Rattle.expsum.proofs.Near.{Near}
+use Rattle.expsum.proofs.Near.{Near, Close, near_close}
 use Rattle.expsum.proofs.Bounds.{Sized, sized, odd_less}
 use Rattle.expsum.proofs.Sums.{sum_rising, sum_falling}
 use Rattle.petroleum.specs.Exponential.{Figures, figures, density_squared, compression_exponent, compressibility, elastic}
@@ -173,36 +173,52 @@ elastic_units_is l n p k =
     go true y z h = rising_is y p
     go false y z h = falling_is z p (h refl)
 
--- 1 − gP from e(z): P is the units of e(z), T/b, and G those of the answer, R/(10⁶b)
-taken_n : (P p T b : ℕ) → P ≤ 4360000000000 → p ≤ 10000 → 1000000000000 * T ≤ P * b + 400 * b → T * p ≤ 1000000 * b
-taken_n P p T b h i k =
-    let a : 1000000000000 * T * p ≤ (P * b + 400 * b) * p = mul-le-mul_right p k in
+-- 1 − gP from e(z): P and M are the units of e(z), H is 10⁶ times the answer before it is rounded
+taken_n : (P M p ep em b : ℕ) → P ≤ 4360000000000 → p ≤ 10000 → 1000000000000 * ep + M * b ≤ P * b + 1000000000000 * em + 400 * b → ep * p ≤ 1000000 * b + em * p
+taken_n P M p ep em b h i k =
+    let a : (1000000000000 * ep + M * b) * p ≤ (P * b + 1000000000000 * em + 400 * b) * p = mul-le-mul_right p k in
     let c : P * p ≤ 4360000000000 * 10000 = mul-le-mul h i in
     let d : P * p * b ≤ 4360000000000 * 10000 * b = mul-le-mul_right b c in
     let f : 400 * p * b ≤ 400 * 10000 * b = mul-le-mul_right b (omega arith) in
     omega arith
 
-elastic_n : (P p T b H G R : ℕ) → p ≤ 10000 → H + P * p ≡ 1000000000000000000 → R + T * p ≡ 1000000 * b → G * 1000000 ≤ H → H ≤ G * 1000000 + 1000000
-    → P * b ≤ 1000000000000 * T + 400 * b → 1000000000000 * T ≤ P * b + 400 * b
-    → (G * (1000000 * b) ≤ 1000000000000 * R + 5 * (1000000 * b)) × (1000000000000 * R ≤ G * (1000000 * b) + 5 * (1000000 * b))
-elastic_n P p T b H G R i h r g k c d =
-    let a : (H + P * p) * b ≡ 1000000000000000000 * b = rw h refl in
-    let c1 : P * b * p ≤ (1000000000000 * T + 400 * b) * p = mul-le-mul_right p c in
-    let d1 : 1000000000000 * T * p ≤ (P * b + 400 * b) * p = mul-le-mul_right p d in
+elastic_n : (P M p ep em b H G T : ℕ) → p ≤ 10000 → H + P * p ≡ 1000000000000000000 + M * p → T + ep * p ≡ 1000000 * b + em * p
+    → G * 1000000 ≤ H → H ≤ G * 1000000 + 1000000
+    → P * b + 1000000000000 * em ≤ 1000000000000 * ep + M * b + 400 * b → 1000000000000 * ep + M * b ≤ P * b + 1000000000000 * em + 400 * b
+    → (G * (1000000 * b) ≤ 1000000000000 * T + 5 * (1000000 * b)) × (1000000000000 * T ≤ G * (1000000 * b) + 5 * (1000000 * b))
+elastic_n P M p ep em b H G T i h t g k c d =
+    let a : (H + P * p) * b ≡ (1000000000000000000 + M * p) * b = rw h refl in
+    let c1 : (P * b + 1000000000000 * em) * p ≤ (1000000000000 * ep + M * b + 400 * b) * p = mul-le-mul_right p c in
+    let d1 : (1000000000000 * ep + M * b) * p ≤ (P * b + 1000000000000 * em + 400 * b) * p = mul-le-mul_right p d in
     let f : 400 * p * b ≤ 400 * 10000 * b = mul-le-mul_right b (omega arith) in
     let g1 : G * 1000000 * b ≤ H * b = mul-le-mul_right b g in
     let k1 : H * b ≤ (G * 1000000 + 1000000) * b = mul-le-mul_right b k in
     (omega arith, omega arith)
 
 -- the worth of 1 − gP
-elastic_worth : (f : Figures) (t q : ℤ) (p T b R : ℕ) → q ≡ pos p → Worth (e (compression_exponent f t)) T 0 b → R + T * p ≡ 1000000 * b → Worth (elastic f t q) R 0 (1000000 * b)
+elastic_worth : (f : Figures) (t q : ℤ) (p ep em b T : ℕ) → q ≡ pos p → Worth (e (compression_exponent f t)) ep em b → T + ep * p ≡ 1000000 * b + em * p → Worth (elastic f t q) T 0 (1000000 * b)
 unfolding elastic compressibility
-elastic_worth f t q p T b R i w h =
-    worth_of (worth_add (worth_nat 1) (worth_neg (worth_mul (worth_mul (parts_worth 1000 1 (lit< tt)) w) (megapascals_worth q p i)))) (omega (arith, w.positive)) (go R p T b h)
+elastic_worth f t q p ep em b T i w h =
+    worth_of (worth_add (worth_nat 1) (worth_neg (worth_mul (worth_mul (parts_worth 1000 1 (lit< tt)) w) (megapascals_worth q p i)))) (omega (arith, w.positive)) (go T p ep em b h)
   where
-    go : (R p T b : ℕ) → R + T * p ≡ 1000000 * b
-        → (1 * (1000 * b * 1000) + ((1 * T + 0 * 0) * 0 + (1 * 0 + 0 * T) * p) * 1) * (1000000 * b) + 0 * (1 * (1000 * b * 1000)) ≡ R * (1 * (1000 * b * 1000)) + (0 * (1000 * b * 1000) + ((1 * T + 0 * 0) * p + (1 * 0 + 0 * T) * 0) * 1) * (1000000 * b)
-    go R p T b h = let k : (R + T * p) * b ≡ 1000000 * b * b = rw h refl in omega arith
+    go : (T p ep em b : ℕ) → T + ep * p ≡ 1000000 * b + em * p
+        → (1 * (1000 * b * 1000) + ((1 * ep + 0 * em) * 0 + (1 * em + 0 * ep) * p) * 1) * (1000000 * b) + 0 * (1 * (1000 * b * 1000)) ≡ T * (1 * (1000 * b * 1000)) + (0 * (1000 * b * 1000) + ((1 * ep + 0 * em) * p + (1 * em + 0 * ep) * 0) * 1) * (1000000 * b)
+    go T p ep em b h = let k : (T + ep * p) * b ≡ (1000000 * b + em * p) * b = rw h refl in omega arith
+
+pub elastic_near : (f : Figures) (t q : ℤ) (p P M H : ℕ) → p ≤ 10000 → P ≤ 4360000000000 → q ≡ pos p → H + P * p ≡ 1000000000000000000 + M * p
+    → Close 400 P M (e (compression_exponent f t)) → Near 5 (H / 1000000) (elastic f t q)
+elastic_near f t q p P M H i small j h c =
+    let g = floor_under H 1000000 (lit< tt) in
+    let room = taken_n P M p c.plus c.minus c.bottom small i c.most in
+    let is : ((1000000 * c.bottom + c.minus * p) - c.plus * p) + c.plus * p ≡ 1000000 * c.bottom + c.minus * p = omega arith in
+    let s = elastic_n P M p c.plus c.minus c.bottom H (H / 1000000) ((1000000 * c.bottom + c.minus * p) - c.plus * p) i h is g.0 (omega (arith, g.1)) c.least c.most in
+    record {
+      top = (1000000 * c.bottom + c.minus * p) - c.plus * p;
+      bottom = 1000000 * c.bottom;
+      worth = elastic_worth f t q p c.plus c.minus c.bottom ((1000000 * c.bottom + c.minus * p) - c.plus * p) j c.worth is;
+      least = s.0;
+      most = s.1;
+    }
 
 -- what the elastic part is: near the exact one, and in its range
 pub record Elastic (units : ℕ) (x : Fraction) : Type 0 where
@@ -212,23 +228,28 @@ pub record Elastic (units : ℕ) (x : Fraction) : Type 0 where
 
 elastic_at : (f : Figures) (t q : ℤ) (p P : ℕ) → p ≤ 10000 → q ≡ pos p → Compressibility P (e (compression_exponent f t)) → Elastic ((1000000000000000000 - P * p) / 1000000) (elastic f t q)
 elastic_at f t q p P i j c =
-    let n = c.near in
     let H = 1000000000000000000 - P * p in
-    let R = 1000000 * n.bottom - n.top * p in
     let g = floor_under H 1000000 (lit< tt) in
     let a : P * p ≤ 4360000000000 * 10000 = mul-le-mul c.most i in
-    let room = taken_n P p n.top n.bottom c.most i n.most in
-    let is : R + n.top * p ≡ 1000000 * n.bottom = omega arith in
-    let s = elastic_n P p n.top n.bottom H (H / 1000000) R i (omega arith) is g.0 (omega (arith, g.1)) n.least n.most in
     record {
-      near = record { top = R; bottom = 1000000 * n.bottom; worth = elastic_worth f t q p n.top n.bottom R j n.worth is; least = s.0; most = s.1 };
+      near = elastic_near f t q p P 0 H i c.most j (omega arith) (near_close c.near);
       least = omega (arith, g.1);
       most = omega (arith, g.0);
     }
 
+-- the same from the exponent's size, where it is not negative and where it is
+pub elastic_rises : (f : Figures) (t q : ℤ) (p size : ℕ) → p ≤ 10000 → q ≡ pos p → size ≤ 1400000000000 → Near 4 size (compression_exponent f t) → Elastic (elastic_rising size p) (elastic f t q)
+elastic_rises f t q p size i j h n = rw (rising_is size p) (elastic_at f t q p (rising size) i j (compressibility_rises (compression_exponent f t) size h n))
+
+pub elastic_falls : (f : Figures) (t q : ℤ) (p size : ℕ) → p ≤ 10000 → q ≡ pos p → size ≤ 1050000000000 → Near 4 size (neg (compression_exponent f t)) → Elastic (elastic_falling size p) (elastic f t q)
+elastic_falls f t q p size i j h n = rw (falling_is size p h) (elastic_at f t q p (falling size) i j (compressibility_falls (compression_exponent f t) size h n))
+
 pub elastic_is : (l : Exponential) (t q : ℤ) (n p : ℕ) → n ≤ 6000 → p ≤ 10000 → t +ℤ pos 1000 ≡ pos n → q ≡ pos p → Elastic (elastic_units l n p) (elastic (figures l) t q)
+unfolding elastic_units
 elastic_is l t q n p k i at j =
-    subst (λ (u : ℕ). Elastic u (elastic (figures l) t q)) (sym (elastic_units_is l n p k)) (elastic_at (figures l) t q p (compressibility_units l n) i j (compressibility_is l t n k at))
+    cond_both (nat_le (beside_density_lem n) (over_density_lem l n)) (elastic_rising (over_density_lem l n - beside_density_lem n) p) (elastic_falling (beside_density_lem n - over_density_lem l n) p) (λ (u : ℕ). Elastic u (elastic (figures l) t q))
+    (λ h. let s = above_exponent l t n k at (leb-true (beside_density_lem n) (over_density_lem l n) h) in elastic_rises (figures l) t q p (over_density_lem l n - beside_density_lem n) i j s.0 s.1)
+    (λ h. let s = below_exponent l t n k at (leb-false (beside_density_lem n) (over_density_lem l n) h) in elastic_falls (figures l) t q p (beside_density_lem n - over_density_lem l n) i j s.0 s.1)
 
 -- what the program asks of them
 pub taken_most : (l : Exponential) (n p : ℕ) → n ≤ 6000 → p ≤ 10000 → compressibility_units l n * p ≤ 43600000000000000

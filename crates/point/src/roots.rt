@@ -25,6 +25,7 @@ fn root_over(square: u128) -> u64
 }
 
 /// The least whole number whose square is at least top/bottom.
+#[tactic(auto, using(crate::proofs::RootBounds::times_ceil, crate::proofs::RootBounds::ceil_times))]
 pub fn root_ceil(top: u128, bottom: u128) -> u64
     requires some { 0 < bottom }
     requires small { (bottom < 2 ^ 126) × (top < 2 ^ 126) }

@@ -1,7 +1,7 @@
 -- Θ from Θ_A and the given limits.
-use Rattle.std.proofs.Common.{All, length, ◌≡◌, ℕ, pred, ◌+◌, ◌*◌, ◌<◌, ◌≤◌, List, [], ◌∷◌, map, pos, sum_by, mul-le-mul, arith, lit<}
+use Rattle.std.proofs.Common.{All, ◌≡◌, ℕ, pred, ◌+◌, ◌*◌, ◌<◌, ◌≤◌, List, [], ◌∷◌, map, pos, sum_by, mul-le-mul, arith, lit<}
 use native.Mathlib.Decide.{dec_le}
-use Rattle.std.proofs.lemmas.List.Elements.{recursion_from_All}
+use Rattle.std.proofs.lemmas.List.Elements.{All-from_recursion}
 use Rattle.std.proofs.lemmas.List.Sums.{sum_by-cons, sum_by-le}
 use Rattle.exact.specs.Fractions.{Fraction, Le, Same, nat, add, mul, div}
 use Rattle.exact.specs.Figures.{number, root}
@@ -26,13 +26,11 @@ unfolding sum
 given_sum [] = worth_same (worth_nat 0) (worth_squares 0) (omega arith)
 given_sum (g ∷ gs) = rw (sum_by-cons (λ g. g * g) g gs) (same_trans (add_same (square_step g) (given_sum gs)) (squares_add (g * g) (sum_by (λ g. g * g) gs)))
 
--- what their type keeps of given limits
-pub limits_kept : (limits : List ℕ) → length limits ≤ 8 → All (λ g. g ≤ 1000000) limits → Limits limits
-limits_kept limits few small = record { few = few; small = recursion_from_All (λ g. g ≤ 1000000) limits small }
-
 -- at most eight squares of at most 1,000,000 each
-pub squares_small : (limits : List ℕ) → length limits ≤ 8 → All (λ g. g ≤ 1000000) limits → sum_by (λ g. g * g) limits ≤ 8000000000000
-squares_small limits few small = omega (arith, sum_by-le (λ g. g * g) 1000000000000 limits (λ k d l. mul-le-mul (small k d l) (small k d l)))
+pub squares_small : (limits : List ℕ) → Limits limits → sum_by (λ g. g * g) limits ≤ 8000000000000
+squares_small limits l =
+    let small : All (λ g. g ≤ 1000000) limits = All-from_recursion (λ g. g ≤ 1000000) limits l.small in
+    omega (arith, l.few, sum_by-le (λ g. g * g) 1000000000000 limits (λ k d m. mul-le-mul (small k d m) (small k d m)))
 
 worth_factor : Worth (div (nat 121) (nat 100)) 121 0 100
 worth_factor = worth_of (worth_div (lit< tt) (worth_nat 121) (worth_nat 100)) (lit< tt) (omega arith)

@@ -1,12 +1,12 @@
-ghost use Rattle.std.specs.Prelude.{◌≡◌, ◌*◌, ◌≤◌, ◌↔◌, length, sum_by, All, IsSome, IfSome};
+ghost use Rattle.std.specs.Prelude.{◌≡◌, ◌*◌, ◌≤◌, ◌↔◌, sum_by, IsSome, IfSome};
+ghost use Rattle.std.proofs.Props.{props};
 ghost use Rattle.range.specs.Judgements.{Limits};
 
 /// Given limits, in steps: at most eight, each at most 1,000,000.
 #[derive(Clone, Copy, Drop)]
 pub struct GivenLimits<'a> {
     pub steps: &'a [u32],
-    ghost few: { length steps.now ≤ 8 },
-    ghost small: { All (λ g. g ≤ 1000000) steps.now },
+    ghost given: { Limits steps.now } by { Prim.hlevel props },
 }
 
 impl<'a> GivenLimits<'a> {

@@ -29,6 +29,9 @@ stretch_most c τ h k = let p : c * τ ≤ c * 6000 = mul-le-mul_left c k in ome
 pub stiffness_least : (e s : ℕ) → 100000 ≤ e → 10 ≤ s → 20000000000 ≤ 20000 * e * s
 stiffness_least e s h k = let p : 100000 * 10 ≤ e * s = mul-le-mul h k in omega arith
 
+pub stiffness_most : (e s : ℕ) → e ≤ 250000 → s ≤ 500 → 20000 * e * s ≤ 2500000000000
+stiffness_most e s h k = let p : e * s ≤ 250000 * 500 = mul-le-mul h k in omega arith
+
 pub strain_most : (S p d : ℕ) → 20000000000 ≤ S → p ≤ 10000 → d ≤ 15000 → 10000 * (S + 19 * p * d) ≤ 11425 * S
 strain_most S p d h k l = let q : p * d ≤ 10000 * 15000 = mul-le-mul k l in omega arith
 
@@ -95,6 +98,9 @@ compact_holds v x c S o w =
 -- of a section: the bottom and the top of its pressure factor
 pub section_stiff : (s : Section) → 20000000000 ≤ stiffness s
 section_stiff s = stiffness_least s.modulus s.wall s.modulus_ranged.0 s.wall_ranged.0
+
+pub section_stiff_most : (s : Section) → stiffness s ≤ 2500000000000
+section_stiff_most s = stiffness_most s.modulus s.wall s.modulus_ranged.1 s.wall_ranged.1
 
 pub section_strain : (s : Section) (p : ℕ) → p ≤ 10000 → 10000 * strained s p ≤ 11425 * stiffness s
 section_strain s p h = strain_most (stiffness s) p s.bore (section_stiff s) h s.bore_ranged.1

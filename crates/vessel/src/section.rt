@@ -51,8 +51,10 @@ impl Section {
     }
 
     /// The bottom of CPS, 20,000·E·s.
+    #[tactic(auto, using(crate::specs::Volumes::section_stiff_most))]
     pub fn stiffness(&self) -> u128
-        ensures { result ≡ stiff self.now }
+        ensures value { result ≡ stiff self.now }
+        ensures most { result ≤ 2500000000000 }
     {
         20_000 * self.modulus as u128 * self.wall as u128
     }

@@ -11,7 +11,7 @@ loop-rows-init g c =
 pub loop-rows-preserved : goal.loop-rows-preserved
 loop-rows-preserved g c =
     let follows = rw c.in-Some.ensures.steps at c.loop-rows.invariant.2 in
-    (tt, tt, further_follows g.V.Value.kind c.args.points.now c.next.new.self.iter.rest.now c.in-Some.rows.now c.in_ok-point-2.field-0 c.loop-rows.reach c.further-reach.result follows c.in_ok-point-2.ensures c.further-reach.ensures)
+    (tt, tt, further_follows g.V.Value.kind c.args.points.now c.next.new.self.iter.rest.now c.in-Some.rows.now c.in_ok-point-2.field-0 c.loop-rows.reach c.further-reach.result follows c.in_ok-point-2.ensures c.further-reach.ensures.holds)
 
 pub returns-in_err-point-2 : goal.returns-in_err-point-2
 returns-in_err-point-2 g c =

@@ -4,7 +4,7 @@ use Rattle.range.proofs.Systematics.{squares_small}
 use Rattle.range.proofs.limits.GivenLimits.squares.Goals as goal
 
 pub sum-requires-clause-fits : goal.sum-requires-clause-fits
-sum-requires-clause-fits c = let small = squares_small c.args.self.steps.now c.args.self.few c.args.self.small in grind (arith, common_steps)
+sum-requires-clause-fits c = let small = squares_small c.args.self.steps.now c.args.self.given in grind (arith, common_steps)
 
 pub returns-clause-small : goal.returns-clause-small
-returns-clause-small c = let small = squares_small c.args.self.steps.now c.args.self.few c.args.self.small in grind (arith, common_steps)
+returns-clause-small c = let small = squares_small c.args.self.steps.now c.args.self.given in grind (arith, common_steps)

@@ -1,10 +1,11 @@
 -- The greater of two numbers, and the pair that holds it.
-use Rattle.std.proofs.Common.{◌≡◌, ℕ, ◌*◌, ◌≤◌, min, max, true, false, pos, sym, subst, inl, inr, mul-le-mul, arith}
+use Rattle.std.proofs.Common.{◌≡◌, ℕ, ◌*◌, ◌≤◌, min, max, true, false, pos, sym, ap, subst, inl, inr, mul-le-mul, arith}
 use Rattle.std.proofs.lemmas.Bool.{cases_lt, cond_both, leb-true, leb-false, le-leb, lt-leb}
 use Rattle.exact.specs.Fractions.{Fraction, Le, Lt, nat}
 use Rattle.exact.specs.Figures.{number, root}
 use Rattle.exact.specs.Pairs.{Holds, steps}
 use Rattle.exact.proofs.Order.{le_refl, le_trans, lt_le}
+use Rattle.exact.proofs.Pairs.{holds_ends}
 use Rattle.exact.proofs.Worth.{worth_nat, worth_le}
 use Rattle.point.specs.Deviations.{squares}
 use Rattle.point.proofs.Steps.{worth_step, worth_squares, root_holds, holds_least, holds_most}
@@ -69,11 +70,13 @@ holds_greater a A b B p q h k = record {
   most = greater_most p q (steps (pos (max A B))) (le_trans h.most (step_mono (omega arith))) (le_trans k.most (step_mono (omega arith)));
 }
 
--- one figure alone: the greater of it and 0
-pub holds_first_root : (a A : ℕ) (p : Fraction) → Holds steps (pos a) (pos A) (root p) → Holds steps (pos a) (pos A) (root (greater p (nat 0)))
-holds_first_root a A p h =
-    root_holds a A (greater p (nat 0)) (le_trans (holds_least a A p h) (greater_left p (nat 0))) (greater_most p (nat 0) (squares (A * A)) (holds_most a A p h) (worth_le (worth_nat 0) (worth_squares (A * A)) (omega arith)))
-
 -- no figure yet: 0
+pub holds_nought_root : Holds steps (pos 0) (pos 0) (root (nat 0))
+holds_nought_root = root_holds 0 0 (nat 0) (worth_le (worth_squares 0) (worth_nat 0) (omega arith)) (worth_le (worth_nat 0) (worth_squares 0) (omega arith))
+
 pub holds_nought : Holds steps (pos 0) (pos 0) (number (nat 0))
 holds_nought = record { least = worth_le (worth_step 0) (worth_nat 0) (omega arith); most = worth_le (worth_nat 0) (worth_step 0) (omega arith) }
+
+-- one figure alone: the greater of it and 0
+pub holds_first_root : (a A : ℕ) (p : Fraction) → Holds steps (pos a) (pos A) (root p) → Holds steps (pos a) (pos A) (root (greater p (nat 0)))
+holds_first_root a A p h = holds_ends (ap pos (omega arith)) (ap pos (omega arith)) (holds_greater_root a A 0 0 p (nat 0) h holds_nought_root)
